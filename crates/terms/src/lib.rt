@@ -1,0 +1,23 @@
+// Terms: names, words and tokens, reading and writing.
+mod builders;
+mod gaps;
+mod letters;
+mod names;
+mod nodes;
+mod parts;
+mod readers;
+mod refusals;
+mod tokens;
+mod words;
+
+pub use builders::Builder;
+pub use names::Name;
+pub use names::NameAlike;
+pub use nodes::Node;
+pub use nodes::Sort;
+pub use refusals::Refusal;
+pub use words::Join;
+pub use words::Modality;
+pub use words::Operator;
+pub use words::Quantifier;
+pub use words::Token;
