@@ -11,9 +11,10 @@ use lib.ListN.{length, getD, take, drop}
 use Rattle.std.proofs.shelf.Lists.{drop-more, drop-all, take-rest, length-drop, length-take}
 use Rattle.std.proofs.shelf.Tests.{cond-true, cond-false, cases-bool, cases-lt, eq-eqb, ne-eqb, eqb-false}
 use Rattle.std.specs.declared.result.Result.the-variants.{Ok, Err}
-use Rattle.terms.specs.Parse.{gap}
+use Rattle.terms.specs.Parse.{gap, ended}
+use Rattle.terms.specs.Term.{Spelled}
 use Rattle.terms.specs.Word.{wordLength, firstWord}
-use Rattle.terms.specs.declared.refusals.Refusal.the-variants.{StraySpace}
+use Rattle.terms.specs.declared.refusals.Refusal.the-variants.{LeftOver, StraySpace}
 
 pub word-within : (s : List ℕ) → wordLength s ≤ length s
 word-within [] = omega arith
@@ -56,3 +57,13 @@ more-than-one s f =
 
 pub word-short : (s : List ℕ) → length (firstWord s) ≤ length s
 word-short s = let h = word-within s in let e = length-take (wordLength s) s in omega arith
+
+pub ended-space : (total : ℕ) (t : Spelled) (s : List ℕ) → 1 < length s → getD (drop 1 s) 0 0 ≡ 32 → ended total t s ≡ Err (StraySpace (total - length (drop 1 s)))
+ended-space total t [] l e = absurd (omega arith)
+ended-space total t (s ∷ []) l e = absurd (omega arith)
+ended-space total t (s ∷ b ∷ bs) l e = cond-true _ _ _ (eq-eqb b 32 e)
+
+pub ended-word : (total : ℕ) (t : Spelled) (s : List ℕ) → 1 < length s → (getD (drop 1 s) 0 0 ≡ 32 → ⊥) → ended total t s ≡ Err (LeftOver (total - length (drop 1 s)))
+ended-word total t [] l n = absurd (omega arith)
+ended-word total t (s ∷ []) l n = absurd (omega arith)
+ended-word total t (s ∷ b ∷ bs) l n = cond-false _ _ _ (ne-eqb b 32 n)

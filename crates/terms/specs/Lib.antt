@@ -5,4 +5,5 @@ pub mod Outcome
 pub mod Parse
 pub mod Seen
 pub mod Term
+pub mod Told
 pub mod Word

@@ -7,6 +7,7 @@ mod nodes;
 mod parts;
 mod readers;
 mod refusals;
+mod texts;
 mod tokens;
 mod words;
 
@@ -16,6 +17,7 @@ pub use names::NameAlike;
 pub use nodes::Node;
 pub use nodes::Sort;
 pub use refusals::Refusal;
+pub use texts::read;
 pub use words::Join;
 pub use words::Modality;
 pub use words::Operator;

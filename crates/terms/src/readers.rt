@@ -62,7 +62,7 @@ fn modal_node(modality: Modality, reader: u8, part: usize) -> Node
 }
 
 // The term at the start of `rest`, where words may still be nested `room` deep; the text has `total` bytes in all.
-fn term<'a, B: Builder>(builder: &mut B, rest: &'a [u8], total: usize, room: usize) -> Result<Part<'a>, Refusal>
+pub(crate) fn term<'a, B: Builder>(builder: &mut B, rest: &'a [u8], total: usize, room: usize) -> Result<Part<'a>, Refusal>
     ensures { λ r. ⌜ Outcome labels makes (parse total room (now (rest .entry))) (now (builder .entry)) r (now (builder .exit)) ⌝ }
 {
     let place = total.saturating_sub(rest.len());
