@@ -1,6 +1,9 @@
+pub mod Drafted
+pub mod Drafting
 pub mod Flaws
 pub mod Language
 pub mod Spaces
 pub mod Steps
 pub mod Symbols
+pub mod Trees
 pub mod Whole

@@ -1,6 +1,8 @@
 pub mod Built
+pub mod Draft
 pub mod Forms
 pub mod Name
+pub mod Nodes
 pub mod Outcome
 pub mod Parse
 pub mod Seen

@@ -1,5 +1,6 @@
 // Terms: names, words and tokens, reading and writing.
 mod builders;
+mod drafts;
 mod gaps;
 mod letters;
 mod names;
