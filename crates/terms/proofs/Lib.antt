@@ -1,3 +1,4 @@
+pub mod Buffers
 pub mod Drafted
 pub mod Drafting
 pub mod Flaws
@@ -7,3 +8,4 @@ pub mod Steps
 pub mod Symbols
 pub mod Trees
 pub mod Whole
+pub mod Writing

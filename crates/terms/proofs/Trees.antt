@@ -7,8 +7,8 @@ use mathlib.Core.Path.{_≡_, refl, sym, ap, subst, _∙_}
 use native.Mathlib.Nat.{add-zero, zero-add}
 use native.Mathlib.Omega.{arith}
 use lib.Dec.{leb, ltb}
-use lib.ListN.{length, getD}
-use Rattle.std.proofs.shelf.Lists.{append-nil, getD-append-left, getD-push, length-append, length-push}
+use lib.ListN.{length, getD, take, drop, take-append-drop}
+use Rattle.std.proofs.shelf.Lists.{drop-more, getD-append-left, getD-push, length-push, length-take-le}
 use Rattle.std.proofs.shelf.Tests.{and-parts, and-from, ltb-true, lt-ltb, leb-true, cases-lt}
 use Rattle.terms.specs.Nodes.{sound, ordered, decoded, treesAfter, trees, tree, spelled}
 use Rattle.terms.specs.Term.{Term, Spelled, top, bottom, class, neg, and, or, exists, forall, may, must}
@@ -83,6 +83,33 @@ ordered-at nc nl p (n ∷ ns) (suc k) o l =
     let q = and-parts (sound nc nl p n) (ordered nc nl (suc p) ns) o in
     let same : suc p + k ≡ p + suc k = omega arith in
     subst (λ j. sound nc nl j (getD ns k Bottom) ≡ true) same (ordered-at nc nl (suc p) ns k (q .1) (omega arith))
+
+-- what is decoded depends on the trees before it alone
+decoded-same : (ts us : List (Term ℕ)) (nc nl p : ℕ) → ((k : ℕ) → k < p → getD ts k bottom ≡ getD us k bottom) → (n : Node) → sound nc nl p n ≡ true → decoded ts n ≡ decoded us n
+decoded-same ts us nc nl p h Top s = refl
+decoded-same ts us nc nl p h Bottom s = refl
+decoded-same ts us nc nl p h (Class c) s = refl
+decoded-same ts us nc nl p h (Not a) s = ap neg (h a (ltb-true a p s))
+decoded-same ts us nc nl p h (And a b) s = let q = and-parts (ltb a p) (ltb b p) s in let x = h a (ltb-true a p (q .0)) in let y = h b (ltb-true b p (q .1)) in cc
+decoded-same ts us nc nl p h (Or a b) s = let q = and-parts (ltb a p) (ltb b p) s in let x = h a (ltb-true a p (q .0)) in let y = h b (ltb-true b p (q .1)) in cc
+decoded-same ts us nc nl p h (Exists l a) s = ap (exists l) (h a (ltb-true a p (and-parts (ltb l nl) (ltb a p) s .1)))
+decoded-same ts us nc nl p h (Forall l a) s = ap (forall l) (h a (ltb-true a p (and-parts (ltb l nl) (ltb a p) s .1)))
+decoded-same ts us nc nl p h (May i a) s = ap (may i) (h a (ltb-true a p (and-parts (leb 1 i && leb i 8) (ltb a p) s .1)))
+decoded-same ts us nc nl p h (Must i a) s = ap (must i) (h a (ltb-true a p (and-parts (leb 1 i && leb i 8) (ltb a p) s .1)))
+
+-- the tree of a node is over the trees of its parts
+pub tree-at : (nc nl : ℕ) (ns : List Node) (i : ℕ) → ordered nc nl 0 ns ≡ true → i < length ns → tree ns i ≡ decoded (trees ns) (getD ns i Bottom)
+tree-at nc nl ns i o l =
+    let n : Node = getD ns i Bottom in
+    let front : List Node = take i ns in
+    let back : List Node = drop (i + 1) ns in
+    let cut = length-take-le i ns (omega arith) in
+    let split : ns ≡ front ++ n ∷ back = sym (take-append-drop i ns) ∙ ap (λ x. front ++ x) (drop-more ns i Bottom l) in
+    let whole : ns ≡ (front ++ n ∷ []) ++ back = split ∙ sym (append-assoc front (n ∷ []) back) in
+    let long = length-push front n in
+    let s : sound nc nl i n ≡ true = subst (λ k. sound nc nl k n ≡ true) (zero-add i) (ordered-at nc nl 0 ns i o l) in
+    ap (λ x. tree x i) whole ∙ tree-kept (front ++ n ∷ []) back i (omega arith) ∙ tree-push front n i cut
+    ∙ decoded-same (trees front) (trees ns) nc nl i (λ k h. sym (ap (λ x. tree x k) split ∙ tree-kept front (n ∷ back) k (omega arith))) n s
 
 -- names in range
 

@@ -6,6 +6,7 @@ pub mod Nodes
 pub mod Outcome
 pub mod Parse
 pub mod Seen
+pub mod Spelling
 pub mod Term
 pub mod Told
 pub mod Word

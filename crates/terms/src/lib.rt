@@ -8,9 +8,11 @@ mod nodes;
 mod parts;
 mod readers;
 mod refusals;
+mod spellings;
 mod texts;
 mod tokens;
 mod words;
+mod writers;
 
 pub use builders::Builder;
 pub use names::Name;

@@ -1,0 +1,10 @@
+use crate::names::Name;
+use crate::nodes::Node;
+
+// What a term is written from: the names by their numbers, and the nodes.
+#[derive(Clone, Copy)]
+pub(crate) struct Spelling<'a> {
+    pub(crate) classes: &'a [Name],
+    pub(crate) links: &'a [Name],
+    pub(crate) nodes: &'a [Node],
+}
