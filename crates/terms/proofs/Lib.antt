@@ -1,6 +1,7 @@
 pub mod Buffers
 pub mod Drafted
 pub mod Drafting
+pub mod Expressed
 pub mod Flaws
 pub mod Language
 pub mod Spaces

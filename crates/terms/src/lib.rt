@@ -1,6 +1,8 @@
 // Terms: names, words and tokens, reading and writing.
 mod builders;
 mod drafts;
+mod expressing;
+mod expressions;
 mod gaps;
 mod letters;
 mod names;
@@ -9,12 +11,14 @@ mod parts;
 mod readers;
 mod refusals;
 mod spellings;
+mod telling;
 mod texts;
 mod tokens;
 mod words;
 mod writers;
 
 pub use builders::Builder;
+pub use expressions::Expression;
 pub use names::Name;
 pub use names::NameAlike;
 pub use nodes::Node;
