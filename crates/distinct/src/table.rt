@@ -70,7 +70,7 @@ impl<T: Alike> Distinct<T> {
         if let Some(i) = self.find(&x) {
             return Some(i);
         }
-        let n = self.items.len();
+        let n = self.len();
         if n >= self.limit {
             return None;
         }

@@ -2,6 +2,7 @@ pub mod Built
 pub mod Draft
 pub mod Expression
 pub mod Forms
+pub mod Kinds
 pub mod Name
 pub mod Nodes
 pub mod Outcome

@@ -4,6 +4,7 @@ mod drafts;
 mod expressing;
 mod expressions;
 mod gaps;
+mod kinds;
 mod letters;
 mod names;
 mod nodes;
@@ -19,6 +20,7 @@ mod writers;
 
 pub use builders::Builder;
 pub use expressions::Expression;
+pub use kinds::NodeAlike;
 pub use names::Name;
 pub use names::NameAlike;
 pub use nodes::Node;
