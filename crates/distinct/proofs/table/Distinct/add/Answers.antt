@@ -20,7 +20,7 @@ returns g c =
     let done = adds-one show (vec-items (c .args .self .now .items)) (c .args .self .now .limit) (c .args .x) (c .in-rest .ensures tt .cases) (omega arith) in
     let pushed = c .push-reserved .ensures .items in
     record {
-      value = ap Some (c .len-n .ensures ∙ long) ∙ done .value;
+      value = ap Some (c .len-n .ensures) ∙ done .value;
       items = pushed ∙ done .items;
       limit = refl;
       apart = λ a. subst (λ ys. Apart (map show ys)) (sym pushed) (done .apart a);
