@@ -4,10 +4,10 @@ ghost use mathlib.Core.Path.{_≡_};
 ghost use lib.ListN.{length, take};
 ghost use Rattle.std.specs.Results.{Cases};
 ghost use Rattle.terms.specs.Told.{IsRefused};
-ghost use Rattle.terms.specs.declared.refusals.Refusal.the-variants.{NoMemory, ShortBuffer};
+ghost use Rattle.names.specs.declared.refusals.Refusal.the-variants.{NoMemory, ShortBuffer};
+use expressions::Expression;
+use names::Refusal;
 use std::alloc::Global;
-use terms::Expression;
-use terms::Refusal;
 
 // Reads a term and writes it back into `out`: how many bytes, which are those that were read.
 pub(crate) fn proof(heap: Global, term: &[u8], out: &mut [u8]) -> Result<usize, Refusal>

@@ -60,6 +60,10 @@ pub(crate) fn proofread(heap: Global, text: &[u8], over: bool) -> Result<Vec<u8>
     if over {
         report.put("the input is over 16384 bytes: the rest was not read\n")?;
     }
-    let Report { text, read: _, refused: _ } = report;
+    let Report {
+        text,
+        read: _,
+        refused: _,
+    } = report;
     Ok(text)
 }

@@ -1,12 +1,12 @@
 // How fast terms are read and written: 1 MiB of terms, in pieces of 4 KiB and of 16 KiB. Give it an argument to run.
 mod pieces;
 
+use expressions::Expression;
 use pieces::piece;
 use std::alloc::Global;
 use std::env;
 use std::error::AnyError;
 use std::time::Instant;
-use terms::Expression;
 
 // Reads a piece and writes it back; how many bytes were written.
 fn once(heap: Global, text: &[u8]) -> usize {
@@ -31,7 +31,10 @@ fn measure(rt: &LibcRuntime, leaves: u32, times: u32) -> Result<(), AnyError> {
     let written = work(rt.alloc(), text.as_slice(), times);
     let micros = start.elapsed(rt)?.as_micros();
     let each = text.len();
-    println!(rt, "{times} terms of {each} bytes: {written} bytes in {micros} microseconds")?;
+    println!(
+        rt,
+        "{times} terms of {each} bytes: {written} bytes in {micros} microseconds"
+    )?;
     Ok(())
 }
 

@@ -5,7 +5,11 @@ use std::alloc::Global;
 pub(crate) fn piece(heap: Global, leaves: u32) -> Result<Vec<u8>, AllocError> {
     let mut text = Vec::new(heap);
     for i in 0..leaves {
-        let operators = if i == 0 { leaves.trailing_zeros() } else { i.trailing_zeros() };
+        let operators = if i == 0 {
+            leaves.trailing_zeros()
+        } else {
+            i.trailing_zeros()
+        };
         for _ in 0..operators {
             text.extend_from_slice(b"& ")?;
         }

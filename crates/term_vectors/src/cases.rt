@@ -1,6 +1,6 @@
+use expressions::Expression;
 use std::alloc::AllocError;
 use std::alloc::Global;
-use terms::Expression;
 
 // What the reader answers, as a case tells it.
 pub(crate) fn answer(heap: Global, term: &[u8]) -> Result<String, AllocError> {

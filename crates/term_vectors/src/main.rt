@@ -34,7 +34,10 @@ impl Tally {
 }
 
 fn hold_all(heap: Global, text: &[u8]) -> Result<Tally, AllocError> {
-    let mut tally = Tally { agree: 0, differ: 0 };
+    let mut tally = Tally {
+        agree: 0,
+        differ: 0,
+    };
     let mut rest = text;
     while !rest.is_empty() {
         let n = piece_length(rest, 10);

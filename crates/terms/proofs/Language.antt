@@ -15,11 +15,11 @@ use Rattle.std.specs.declared.option.Option.the-variants.{Some, None}
 use Rattle.std.specs.declared.result.Result.{Result}
 use Rattle.std.specs.declared.result.Result.the-variants.{Ok, Err}
 use Rattle.terms.specs.Forms.{joins, quantifies, modalizes}
-use Rattle.terms.specs.Name.{opens, follows, flaw, Legal}
+use Rattle.names.specs.Name.{opens, follows, flaw, Legal}
 use Rattle.terms.specs.Parse.{after, Parsed, gap, named, nameAt, onlyClass, part, onePart, twoParts, linked, operated, parts, parse, place, ended, begun, reading}
 use Rattle.terms.specs.Term.{Spelled, top, bottom, class, neg, and, or, exists, forall, may, must, written, depth, Valid, Readable}
 use Rattle.terms.specs.Word.{Word, operator, reader, name, wordLength, firstWord, afterWord, meant}
-use Rattle.terms.specs.declared.refusals.Refusal.{Refusal}
+use Rattle.names.specs.declared.refusals.Refusal.{Refusal}
 use Rattle.terms.specs.declared.words.Join.{Join}
 use Rattle.terms.specs.declared.words.Join.the-variants.{And, Or}
 use Rattle.terms.specs.declared.words.Modality.{Modality}
@@ -28,7 +28,7 @@ use Rattle.terms.specs.declared.words.Operator.{Operator}
 use Rattle.terms.specs.declared.words.Operator.the-variants.{Top, Bottom, Not, Join as Joining, Quantifier as Quantifying}
 use Rattle.terms.specs.declared.words.Quantifier.{Quantifier}
 use Rattle.terms.specs.declared.words.Quantifier.the-variants.{Exists, Forall}
-use Rattle.terms.proofs.Flaws.{legal-when, when-legal}
+use Rattle.names.proofs.Flaws.{legal-when, when-legal}
 use Rattle.terms.proofs.Symbols.{symbol, modalSymbol, Spells, spells, means-operator, means-reader, means-name}
 
 -- a text at the end of a word: nothing, or a space

@@ -1,12 +1,6 @@
-pub mod Buffers
-pub mod Drafted
-pub mod Drafting
-pub mod Expressed
-pub mod Flaws
 pub mod Language
 pub mod Spaces
 pub mod Steps
 pub mod Symbols
 pub mod Trees
 pub mod Whole
-pub mod Writing

@@ -14,7 +14,7 @@ use Rattle.std.specs.declared.result.Result.the-variants.{Ok, Err}
 use Rattle.terms.specs.Parse.{gap, ended}
 use Rattle.terms.specs.Term.{Spelled}
 use Rattle.terms.specs.Word.{wordLength, firstWord}
-use Rattle.terms.specs.declared.refusals.Refusal.the-variants.{LeftOver, StraySpace}
+use Rattle.names.specs.declared.refusals.Refusal.the-variants.{LeftOver, StraySpace}
 
 pub word-within : (s : List ℕ) → wordLength s ≤ length s
 word-within [] = omega arith

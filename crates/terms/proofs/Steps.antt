@@ -9,7 +9,7 @@ use Rattle.std.specs.declared.result.Result.{Result}
 use Rattle.std.specs.declared.result.Result.the-variants.{Ok, Err}
 use Rattle.terms.specs.Built.{Built}
 use Rattle.terms.specs.Forms.{joins, quantifies, modalizes, joinNode, quantifierNode, modalNode}
-use Rattle.terms.specs.Name.{flaw}
+use Rattle.names.specs.Name.{flaw}
 use Rattle.terms.specs.Outcome.{Outcome}
 use Rattle.terms.specs.Parse.{after, Parsed, gap, named, nameAt, onlyClass, part, onePart, twoParts, linked, operated, parts, parse, place}
 use Rattle.terms.specs.Term.{Spelled, class}
@@ -18,8 +18,8 @@ use Rattle.terms.specs.declared.nodes.Node.{Node}
 use Rattle.terms.specs.declared.nodes.Sort.{Sort}
 use Rattle.terms.specs.declared.nodes.Sort.the-variants.{OfClass, OfLink}
 use Rattle.terms.specs.declared.parts.Part.{Part}
-use Rattle.terms.specs.declared.refusals.Refusal.{Refusal}
-use Rattle.terms.specs.declared.refusals.Refusal.the-variants.{BadOperator, TooDeep}
+use Rattle.names.specs.declared.refusals.Refusal.{Refusal}
+use Rattle.names.specs.declared.refusals.Refusal.the-variants.{BadOperator, TooDeep}
 use Rattle.terms.specs.declared.words.Join.{Join}
 use Rattle.terms.specs.declared.words.Join.the-variants.{And, Or}
 use Rattle.terms.specs.declared.words.Modality.{Modality}

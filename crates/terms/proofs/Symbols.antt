@@ -10,7 +10,7 @@ use Rattle.std.proofs.shelf.Tests.{cases-bool, cond-true, cond-false, and-parts
 use Rattle.std.proofs.shelf.Ways.{tells}
 use Rattle.std.specs.declared.option.Option.{Option}
 use Rattle.std.specs.declared.option.Option.the-variants.{Some, None}
-use Rattle.terms.specs.Name.{opens}
+use Rattle.names.specs.Name.{opens}
 use Rattle.terms.specs.Word.{Word, operator, reader, name, Sign, bare, modal, letter, sign, completed, meant}
 use Rattle.terms.specs.declared.words.Join.the-variants.{And, Or}
 use Rattle.terms.specs.declared.words.Modality.{Modality}
@@ -68,10 +68,10 @@ completes (modal m) b [] e = tt
 completes (modal m) b (d ∷ []) e =
     ⊎-elim
     (λ t. let p = and-parts (leb 49 d) (leb d 56) t in
-        let low = leb-true 49 d (p .0) in
-        let high = leb-true d 56 (p .1) in
-        let back : d ≡ 48 + (d - 48) = omega arith in
-        subst (MaySpell (b ∷ d ∷ [])) (sym (cond-true (leb 49 d && leb d 56) (Some (reader m (d - 48))) None t)) (ap (λ x. x ∷ d ∷ []) e ∙ ap (λ x. modalSymbol m ∷ x ∷ []) back, omega arith, omega arith))
+    let low = leb-true 49 d (p .0) in
+    let high = leb-true d 56 (p .1) in
+    let back : d ≡ 48 + (d - 48) = omega arith in
+    subst (MaySpell (b ∷ d ∷ [])) (sym (cond-true (leb 49 d && leb d 56) (Some (reader m (d - 48))) None t)) (ap (λ x. x ∷ d ∷ []) e ∙ ap (λ x. modalSymbol m ∷ x ∷ []) back, omega arith, omega arith))
     (λ f. subst (MaySpell (b ∷ d ∷ [])) (sym (cond-false (leb 49 d && leb d 56) (Some (reader m (d - 48))) None f)) tt)
     (cases-bool (leb 49 d && leb d 56))
 completes (modal m) b (d ∷ c ∷ cs) e = tt

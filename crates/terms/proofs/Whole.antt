@@ -9,7 +9,7 @@ use Rattle.std.specs.declared.result.Result.the-variants.{Ok, Err}
 use Rattle.terms.specs.Parse.{after, parse, begun, ended, reading}
 use Rattle.terms.specs.Term.{Spelled, written, Readable}
 use Rattle.terms.specs.Told.{IsRead, IsRefused}
-use Rattle.terms.specs.declared.refusals.Refusal.{Refusal}
+use Rattle.names.specs.declared.refusals.Refusal.{Refusal}
 use Rattle.terms.proofs.Language.{reading-sound, reading-complete}
 
 module _ (s : List ℕ) where

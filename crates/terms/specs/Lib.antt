@@ -1,15 +1,10 @@
 pub mod Built
-pub mod Draft
-pub mod Expression
 pub mod Forms
 pub mod Kinds
-pub mod Name
 pub mod Nodes
 pub mod Outcome
 pub mod Parse
-pub mod Refusal
 pub mod Seen
-pub mod Spelling
 pub mod Term
 pub mod Told
 pub mod Word

@@ -5,7 +5,7 @@ use mathlib.Core.List.{List, [], _∷_, _++_, map}
 use lib.Dec.{leb, ltb}
 use lib.ListN.{length, getD, take}
 use Rattle.terms.specs.Term.{Term, Spelled, top, bottom, class, neg, and, or, exists, forall, may, must}
-use Rattle.terms.specs.declared.names.Name.{Name}
+use Rattle.names.specs.declared.named.Name.{Name}
 use Rattle.terms.specs.declared.nodes.Node.{Node}
 use Rattle.terms.specs.declared.nodes.Node.the-variants.{Top, Bottom, Class, Not, And, Or, Exists, Forall, May, Must}
 

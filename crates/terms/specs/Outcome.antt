@@ -11,7 +11,7 @@ use Rattle.terms.specs.Term.{Spelled}
 use Rattle.terms.specs.declared.nodes.Node.{Node}
 use Rattle.terms.specs.declared.nodes.Sort.{Sort}
 use Rattle.terms.specs.declared.parts.Part.{Part}
-use Rattle.terms.specs.declared.refusals.Refusal.{Refusal}
+use Rattle.names.specs.declared.refusals.Refusal.{Refusal}
 
 -- the parsed term with the text behind it, and the number by which it was built; or the same refusal
 abbrev pub Outcome : {S : Type 0} (labels : S → Sort → List ℕ → ℕ → S → Type 0) (makes : S → Node → ℕ → S → Type 0) → Parsed → S → Result Part Refusal → S → Type 0

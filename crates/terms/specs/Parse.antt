@@ -10,11 +10,11 @@ use Rattle.std.specs.declared.option.Option.the-variants.{Some, None}
 use Rattle.std.specs.declared.result.Result.{Result}
 use Rattle.std.specs.declared.result.Result.the-variants.{Ok, Err}
 use Rattle.terms.specs.Forms.{joins, quantifies, modalizes}
-use Rattle.terms.specs.Name.{flaw}
+use Rattle.names.specs.Name.{flaw}
 use Rattle.terms.specs.Term.{Spelled, top, bottom, class, neg}
 use Rattle.terms.specs.Word.{Word, operator, reader, name, firstWord, afterWord, meant}
-use Rattle.terms.specs.declared.refusals.Refusal.{Refusal}
-use Rattle.terms.specs.declared.refusals.Refusal.the-variants.{BadName, BadOperator, EndsEarly, LeftOver, StraySpace, TooDeep}
+use Rattle.names.specs.declared.refusals.Refusal.{Refusal}
+use Rattle.names.specs.declared.refusals.Refusal.the-variants.{BadName, BadOperator, EndsEarly, LeftOver, StraySpace, TooDeep}
 use Rattle.terms.specs.declared.words.Operator.{Operator}
 use Rattle.terms.specs.declared.words.Operator.the-variants.{Top, Bottom, Not, Join as Joining, Quantifier as Quantifying}
 

@@ -3,7 +3,7 @@
 use Prim.Native.Nat.{ℕ, suc, max, _+_, _≤_}
 use mathlib.Core.List.{List, [], _∷_, _++_}
 use mathlib.Core.Path.{_≡_}
-use Rattle.terms.specs.Name.{Legal}
+use Rattle.names.specs.Name.{Legal}
 
 pub data Term (N : Type 0) : Type 0 where
   top : Term N

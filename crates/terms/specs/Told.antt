@@ -7,7 +7,7 @@ use Rattle.std.specs.declared.result.Result.{Result}
 use Rattle.std.specs.declared.result.Result.the-variants.{Ok, Err}
 use Rattle.terms.specs.Parse.{reading}
 use Rattle.terms.specs.Term.{Spelled, written, Readable}
-use Rattle.terms.specs.declared.refusals.Refusal.{Refusal}
+use Rattle.names.specs.declared.refusals.Refusal.{Refusal}
 
 -- The text s is read as t: t is a term that can be read, its writing is s, and no other term's is.
 pub record IsRead (s : List ℕ) (t : Spelled) : Type 0 where

@@ -3,9 +3,9 @@ ghost use mathlib.Core.List.{List};
 ghost use lib.ListN.{take};
 ghost use Rattle.terms.specs.declared.nodes.Node.{Node};
 ghost use Rattle.terms.specs.declared.nodes.Sort.{Sort};
-use crate::names::Name;
 use crate::nodes::Node;
 use crate::nodes::Sort;
+use names::Name;
 
 // What is made of a term while it is read: each name and each node gets a number, from left to right, parts before
 // wholes. A builder never refuses: one that has no room remembers that, and answers any number.

@@ -3,7 +3,7 @@ ghost use Rattle.std.specs.Results.{Cases};
 ghost use Rattle.std.specs.declared.result.Result.the-variants.{Ok, Err};
 ghost use Rattle.terms.specs.Parse.{gap, begun};
 ghost use Rattle.terms.specs.Word.{wordLength, firstWord, afterWord};
-use crate::refusals::Refusal;
+use names::Refusal;
 
 // How many bytes stand before the first space, or the end.
 fn word_length(rest: &[u8]) -> usize
@@ -34,10 +34,14 @@ pub(crate) fn next_word(behind: &[u8], total: usize) -> Result<&[u8], Refusal>
     }
     let next = &behind[1..];
     if next.is_empty() {
-        return Err(Refusal::StraySpace { place: total.saturating_sub(1) });
+        return Err(Refusal::StraySpace {
+            place: total.saturating_sub(1),
+        });
     }
     if next[0] == b' ' {
-        return Err(Refusal::StraySpace { place: total.saturating_sub(next.len()) });
+        return Err(Refusal::StraySpace {
+            place: total.saturating_sub(next.len()),
+        });
     }
     Ok(next)
 }

@@ -1,31 +1,18 @@
-// Terms: names, words and tokens, reading and writing.
+// The language of terms: words and tokens, nodes, and reading a text with any builder.
 mod builders;
-mod drafts;
-mod expressing;
-mod expressions;
 mod gaps;
 mod kinds;
-mod letters;
-mod names;
 mod nodes;
 mod parts;
 mod readers;
-mod refusals;
-mod spellings;
-mod telling;
 mod texts;
 mod tokens;
 mod words;
-mod writers;
 
 pub use builders::Builder;
-pub use expressions::Expression;
 pub use kinds::NodeAlike;
-pub use names::Name;
-pub use names::NameAlike;
 pub use nodes::Node;
 pub use nodes::Sort;
-pub use refusals::Refusal;
 pub use texts::read;
 pub use words::Join;
 pub use words::Modality;

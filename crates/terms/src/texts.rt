@@ -11,7 +11,7 @@ ghost use Rattle.terms.specs.Told.{IsRead, IsRefused};
 use crate::builders::Builder;
 use crate::gaps::first_word;
 use crate::readers::term;
-use crate::refusals::Refusal;
+use names::Refusal;
 
 // Words may be nested this deep; the outermost is 1 deep.
 const DEPTH: usize = 32;
@@ -25,7 +25,9 @@ fn finish(behind: &[u8], total: usize) -> Result<(), Refusal>
     }
     let next = &behind[1..];
     if next.is_empty() {
-        return Err(Refusal::StraySpace { place: total.saturating_sub(1) });
+        return Err(Refusal::StraySpace {
+            place: total.saturating_sub(1),
+        });
     }
     let place = total.saturating_sub(next.len());
     if next[0] == b' ' {

@@ -4,13 +4,13 @@ ghost use Rattle.std.specs.Results.{Cases};
 ghost use Rattle.std.specs.declared.option.Option.the-variants.{Some, None};
 ghost use Rattle.terms.specs.Seen.{seen, Placed};
 ghost use Rattle.terms.specs.Word.{meant, completed, bare, modal};
-ghost use Rattle.terms.specs.declared.refusals.Refusal.the-variants.{BadOperator};
-use crate::refusals::Refusal;
+ghost use Rattle.names.specs.declared.refusals.Refusal.the-variants.{BadOperator};
 use crate::words::Join;
 use crate::words::Modality;
 use crate::words::Operator;
 use crate::words::Quantifier;
 use crate::words::Token;
+use names::Refusal;
 
 // What a word is: an operator whole, or else a name. `place` is where the word begins in its term.
 pub(crate) fn token(word: &[u8], place: usize) -> Result<Token<'_>, Refusal>

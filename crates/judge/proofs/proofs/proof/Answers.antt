@@ -3,7 +3,7 @@ use mathlib.Core.Path.{sym, ap, subst, _∙_}
 use native.Mathlib.Omega.{arith}
 use lib.ListN.{length, take, drop}
 use Rattle.std.proofs.shelf.Lists.{take-at, length-append}
-use Rattle.terms.specs.Expression.{termOf}
+use Rattle.expressions.specs.Expression.{termOf}
 use Rattle.terms.specs.Term.{written}
 use Rattle.judge.proofs.proofs.proof.Needs as need
 

@@ -6,7 +6,7 @@ use Rattle.std.proofs.shelf.Lists.{take-rest, length-drop}
 use Rattle.std.proofs.shelf.Tests.{eqb-false}
 use Rattle.std.specs.declared.result.Result.the-variants.{Ok, Err}
 use Rattle.terms.proofs.Spaces.{gap-space, gap-word, more-than-one}
-use Rattle.terms.specs.declared.refusals.Refusal.the-variants.{StraySpace}
+use Rattle.names.specs.declared.refusals.Refusal.the-variants.{StraySpace}
 use Rattle.terms.proofs.gaps.next_word.Needs as need
 
 pub returns-then-next-eq32 : need.returns-then-next-eq32

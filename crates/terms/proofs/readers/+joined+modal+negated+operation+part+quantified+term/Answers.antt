@@ -8,11 +8,11 @@ use Rattle.std.specs.declared.result.Result.the-variants.{Ok, Err}
 use Rattle.terms.proofs.Spaces.{word-short}
 use Rattle.terms.proofs.Steps.{one-read, two-read, link-read, parse-none, at-none, at-name, at-operator, at-reader, carried, join-built, quantifier-built, modal-built}
 use Rattle.terms.specs.Forms.{joins, quantifies, modalizes}
-use Rattle.terms.specs.Name.{flaw}
+use Rattle.names.specs.Name.{flaw}
 use Rattle.terms.specs.Parse.{parse, place, named, onlyClass, operated}
 use Rattle.terms.specs.Seen.{seen, Placed}
 use Rattle.terms.specs.Term.{top, bottom, neg}
-use Rattle.terms.specs.declared.refusals.Refusal.the-variants.{TooDeep, BadOperator}
+use Rattle.names.specs.declared.refusals.Refusal.the-variants.{TooDeep, BadOperator}
 use Rattle.terms.proofs.readers.+joined+modal+negated+operation+part+quantified+term.Needs as need
 
 pub joined-returns : need.joined-returns

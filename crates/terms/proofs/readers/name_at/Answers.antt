@@ -1,5 +1,5 @@
 use native.Mathlib.Omega.{arith}
-use Rattle.terms.proofs.Flaws.{flaw-within}
+use Rattle.names.proofs.Flaws.{flaw-within}
 use Rattle.terms.proofs.readers.name_at.Needs as need
 
 pub add-result : need.add-result

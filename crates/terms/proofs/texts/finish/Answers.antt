@@ -5,7 +5,7 @@ use Rattle.std.proofs.shelf.Lists.{take-rest, nil-from-length}
 use Rattle.std.proofs.shelf.Tests.{eqb-true}
 use Rattle.std.specs.declared.result.Result.the-variants.{Err}
 use Rattle.terms.proofs.Spaces.{ended-space, ended-word, more-than-one}
-use Rattle.terms.specs.declared.refusals.Refusal.the-variants.{LeftOver, StraySpace}
+use Rattle.names.specs.declared.refusals.Refusal.the-variants.{LeftOver, StraySpace}
 use Rattle.terms.proofs.texts.finish.Needs as need
 
 pub returns-then-is-empty : need.returns-then-is-empty

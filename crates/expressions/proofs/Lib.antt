@@ -1,0 +1,5 @@
+pub mod Buffers
+pub mod Drafted
+pub mod Drafting
+pub mod Expressed
+pub mod Writing

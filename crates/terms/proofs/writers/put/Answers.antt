@@ -1,7 +1,0 @@
-use mathlib.Core.Path.{refl}
-use native.Mathlib.Omega.{arith}
-use Rattle.terms.proofs.Buffers.{put-is}
-use Rattle.terms.proofs.writers.put.Needs as need
-
-pub returns : need.returns
-returns c = record { value = refl; after = put-is (c .args .out .now) (c .args .at) _ (c .args .bytes .now) (c .copy-from-slice .last .self) (omega arith) (c .copy-from-slice .ensures .after) }
