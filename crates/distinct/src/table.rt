@@ -11,6 +11,19 @@ use crate::kind::Alike;
 use std::alloc::AllocError;
 use std::alloc::Global;
 
+// The place of the first item that is like `x`.
+fn position<T: Alike>(items: &[T], x: &T) -> Option<usize>
+    ensures value { λ r. ⌜ r ≡ place (map shown (now (items .entry))) (shown (now (x .entry))) ⌝ }
+    ensures cases { λ r. ⌜ Found (map shown (now (items .entry))) (shown (now (x .entry))) r ⌝ }
+{
+    for (i, y) in items.iter().enumerate() {
+        if y.alike(x) {
+            return Some(i);
+        }
+    }
+    None
+}
+
 // Entries in the order in which they came, no two alike, at most `limit` of them; their number is their place.
 // All memory is taken when the table is made.
 #[derive(Drop)]
@@ -49,12 +62,7 @@ impl<T: Alike> Distinct<T> {
         ensures value { λ r. ⌜ r ≡ place (map shown (vec-items (now (self .entry) .items))) (shown (now (x .entry))) ⌝ }
         ensures cases { λ r. ⌜ Found (map shown (vec-items (now (self .entry) .items))) (shown (now (x .entry))) r ⌝ }
     {
-        for (i, y) in self.items.iter().enumerate() {
-            if y.alike(x) {
-                return Some(i);
-            }
-        }
-        None
+        position(self.as_slice(), x)
     }
 
     // The number of the entry like `x`, which is added behind the others where there is none and a place is free.

@@ -2,6 +2,7 @@ ghost use Prim.Native.Nat.{_≤_};
 ghost use mathlib.Core.Bool.{true};
 ghost use mathlib.Core.Path.{_≡_};
 ghost use lib.ListN.{take};
+ghost use Rattle.std.specs.Orderings.{Decides};
 ghost use Rattle.std.specs.Results.{Cases};
 ghost use Rattle.names.specs.Name.{legal, Legal, FirstFlaw};
 use crate::letters::first_flaw;
@@ -38,11 +39,17 @@ impl Name {
     }
 }
 
+fn same_bytes(a: &[u8], b: &[u8]) -> bool
+    ensures { λ r. ⌜ Decides r (now (a .entry) ≡ now (b .entry)) ⌝ }
+{
+    a == b
+}
+
 // Two names are alike when all their bytes are.
 pub impl Alike for Name as NameAlike {
     ghost shown = { λ n. take (n .len) (n .bytes) };
 
     fn alike(&self, other: &Name) -> bool {
-        self.as_slice() == other.as_slice()
+        same_bytes(self.as_slice(), other.as_slice())
     }
 }

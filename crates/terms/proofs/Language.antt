@@ -43,7 +43,7 @@ after-inv (Err e′) f y e = let z : _≡_ {A = ℕ} 0 1 = cc in absurd (omega a
 
 -- words
 
-after-ended : (s : List ℕ) → Ended (afterWord s)
+pub after-ended : (s : List ℕ) → Ended (afterWord s)
 after-ended [] = tt
 after-ended (b ∷ bs) =
     ⊎-elim
@@ -51,23 +51,23 @@ after-ended (b ∷ bs) =
     (λ f. subst (λ n. Ended (drop n (b ∷ bs))) (sym (cond-false (eqb b 32) 0 (suc (wordLength bs)) f)) (after-ended bs))
     (cases-bool (eqb b 32))
 
-word-whole : (s : List ℕ) → s ≡ firstWord s ++ afterWord s
+pub word-whole : (s : List ℕ) → s ≡ firstWord s ++ afterWord s
 word-whole s = sym (take-append-drop (wordLength s) s)
 
 -- no byte of w is a space
-abbrev Solid : List ℕ → Type 0
+abbrev pub Solid : List ℕ → Type 0
 Solid [] = Unit {0}
 Solid (b ∷ bs) = (eqb b 32 ≡ false) × Solid bs
 
-solid-length : (w k : List ℕ) → Solid w → Ended k → wordLength (w ++ k) ≡ length w
+pub solid-length : (w k : List ℕ) → Solid w → Ended k → wordLength (w ++ k) ≡ length w
 solid-length [] [] s e = refl
 solid-length [] (b ∷ bs) s e = cond-true (eqb b 32) 0 (suc (wordLength bs)) (eq-eqb b 32 e)
 solid-length (b ∷ w) k (n, s) e = cond-false (eqb b 32) 0 (suc (wordLength (w ++ k))) n ∙ ap suc (solid-length w k s e)
 
-first-is : (w k : List ℕ) → Solid w → Ended k → firstWord (w ++ k) ≡ w
+pub first-is : (w k : List ℕ) → Solid w → Ended k → firstWord (w ++ k) ≡ w
 first-is w k s e = ap (λ n. take n (w ++ k)) (solid-length w k s e) ∙ take-at w k (length w) refl
 
-after-is : (w k : List ℕ) → Solid w → Ended k → afterWord (w ++ k) ≡ k
+pub after-is : (w k : List ℕ) → Solid w → Ended k → afterWord (w ++ k) ≡ k
 after-is w k s e = ap (λ n. drop n (w ++ k)) (solid-length w k s e) ∙ drop-at w k (length w) refl
 
 follow-solid : (b : ℕ) → follows b ≡ true → eqb b 32 ≡ false

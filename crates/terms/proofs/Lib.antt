@@ -1,3 +1,4 @@
+pub mod Firm
 pub mod Language
 pub mod Spaces
 pub mod Steps

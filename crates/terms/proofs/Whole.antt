@@ -10,6 +10,7 @@ use Rattle.terms.specs.Parse.{after, parse, begun, ended, reading}
 use Rattle.terms.specs.Term.{Spelled, written, Readable}
 use Rattle.terms.specs.Told.{IsRead, IsRefused}
 use Rattle.names.specs.declared.refusals.Refusal.{Refusal}
+use Rattle.terms.proofs.Firm.{firm-stands}
 use Rattle.terms.proofs.Language.{reading-sound, reading-complete}
 
 module _ (s : List ℕ) where
@@ -47,5 +48,6 @@ module _ (s : List ℕ) where
   is-refused e h =
       record {
         exact = h;
+        firm = firm-stands s e h;
         none = λ t r w. let o = reading-complete t r in let g : reading s ≡ Ok t = sym (ap reading w) ∙ o in let z : _≡_ {A = ℕ} 0 1 = cc in omega arith;
       }
