@@ -15,6 +15,10 @@ pub enum Refusal {
     TooDeep { place: usize },
     // the buffer is shorter than what would be written
     ShortBuffer,
+    // a new class, link or item finds no place
+    NamesFull,
+    // a new term finds no place
+    TermsFull,
     // no memory was to be had
     NoMemory,
 }

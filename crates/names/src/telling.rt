@@ -15,6 +15,8 @@ impl Refusal {
             Refusal::StraySpace { place: _ } => 5,
             Refusal::TooDeep { place: _ } => 6,
             Refusal::ShortBuffer => 12,
+            Refusal::NamesFull => 14,
+            Refusal::TermsFull => 15,
             Refusal::NoMemory => 100,
         }
     }
@@ -31,6 +33,8 @@ impl Refusal {
             Refusal::StraySpace { place } => place,
             Refusal::TooDeep { place } => place,
             Refusal::ShortBuffer => 0,
+            Refusal::NamesFull => 0,
+            Refusal::TermsFull => 0,
             Refusal::NoMemory => 0,
         }
     }

@@ -1,5 +1,6 @@
 // The language of terms: words and tokens, nodes, and reading a text with any builder.
 mod builders;
+mod checks;
 mod gaps;
 mod kinds;
 mod nodes;
@@ -10,6 +11,7 @@ mod tokens;
 mod words;
 
 pub use builders::Builder;
+pub use checks::check;
 pub use kinds::NodeAlike;
 pub use nodes::Node;
 pub use nodes::Sort;
