@@ -10,7 +10,7 @@ use lib.ListN.{length, getD}
 use Rattle.std.proofs.shelf.Lists.{append-nil, getD-append-left, getD-push, length-append, length-push}
 use Rattle.std.proofs.shelf.Tests.{and-from, lt-ltb, le-leb}
 use Rattle.terms.specs.Built.{Built}
-use Rattle.expressions.specs.Draft.{Sheaf, named, nextName, noded, Labels, Makes}
+use Rattle.expressions.specs.Draft.{Contents, named, nextName, noded, Labels, Makes}
 use Rattle.terms.specs.Nodes.{sound, ordered, decoded, trees, tree, spelled}
 use Rattle.terms.specs.Term.{Term, Spelled, top, bottom, class, neg, and, or, exists, forall, may, must, Valid}
 use Rattle.terms.specs.declared.nodes.Node.{Node}
@@ -32,21 +32,21 @@ front-long xs ys (a, e) = let l = ap length e ∙ length-append xs a in omega ar
 front-getD : {X : Type 0} (xs ys : List X) (k : ℕ) (d : X) → Front xs ys → k < length xs → getD ys k d ≡ getD xs k d
 front-getD xs ys k d (a, e) l = ap (λ z. getD z k d) e ∙ getD-append-left xs a d k l
 
-abbrev pub Fair : Sheaf → Type 0
+abbrev pub Fair : Contents → Type 0
 Fair d = ordered (length (d .classes)) (length (d .links)) 0 (d .nodes) ≡ true
 
 -- the term of node i
-abbrev pub term : Sheaf → ℕ → Spelled
+abbrev pub term : Contents → ℕ → Spelled
 term d i = spelled (d .classes) (d .links) (tree (d .nodes) i)
 
-pub record Grew (d e : Sheaf) : Type 0 where
+pub record Grew (d e : Contents) : Type 0 where
   pub classes : Front (d .classes) (e .classes)
   pub links : Front (d .links) (e .links)
   pub nodes : Front (d .nodes) (e .nodes)
   pub fair : Fair e
 
 -- a term that was there is there still
-term-kept : (d e : Sheaf) (i : ℕ) → Fair d → Grew d e → i < length (d .nodes) → term e i ≡ term d i
+term-kept : (d e : Contents) (i : ℕ) → Fair d → Grew d e → i < length (d .nodes) → term e i ≡ term d i
 term-kept d e i f g l =
     let (xs, p) = g .classes in
     let (ys, q) = g .links in
@@ -55,12 +55,12 @@ term-kept d e i f g l =
     ap (spelled (e .classes) (e .links)) same ∙ ap (λ cs. spelled cs (e .links) (tree (d .nodes) i)) p ∙ ap (λ ls. spelled (d .classes ++ xs) ls (tree (d .nodes) i)) q
     ∙ spelled-kept (d .classes) xs (d .links) ys (tree (d .nodes) i) (tree-range _ _ (d .nodes) i f l)
 
-pub record Says (d e : Sheaf) (i : ℕ) (t : Spelled) : Type 0 where
+pub record Says (d e : Contents) (i : ℕ) (t : Spelled) : Type 0 where
   pub grew : Grew d e
   pub last : suc i ≡ length (e .nodes)
   pub reads : term e i ≡ t
 
-says-after : (d e f : Sheaf) (i : ℕ) (t : Spelled) → Grew d e → Says e f i t → Says d f i t
+says-after : (d e f : Contents) (i : ℕ) (t : Spelled) → Grew d e → Says e f i t → Says d f i t
 says-after d e f i t g s =
     record {
       grew = record {
@@ -74,7 +74,7 @@ says-after d e f i t g s =
     }
 
 -- a node over parts that are there
-says-node : (d e : Sheaf) (n : Node) (i : ℕ) (t : Spelled) → Fair d → (i ≡ length (d .nodes)) × (e ≡ noded n d) → sound (length (d .classes)) (length (d .links)) (length (d .nodes)) n ≡ true → spelled (d .classes) (d .links) (decoded (trees (d .nodes)) n) ≡ t → Says d e i t
+says-node : (d e : Contents) (n : Node) (i : ℕ) (t : Spelled) → Fair d → (i ≡ length (d .nodes)) × (e ≡ noded n d) → sound (length (d .classes)) (length (d .links)) (length (d .nodes)) n ≡ true → spelled (d .classes) (d .links) (decoded (trees (d .nodes)) n) ≡ t → Says d e i t
 says-node d e n i t f (at, is) s r =
     let l = length-push (d .nodes) n in
     subst (λ e. Says d e i t) (sym is) (record {
@@ -89,7 +89,7 @@ says-node d e n i t f (at, is) s r =
     })
 
 -- a name that is added
-grew-name : (d e : Sheaf) (k : Sort) (w : List ℕ) → Fair d → e ≡ named k w d → Grew d e
+grew-name : (d e : Contents) (k : Sort) (w : List ℕ) → Fair d → e ≡ named k w d → Grew d e
 grew-name d e OfClass w f is =
     let l = length-push (d .classes) w in
     subst (Grew d) (sym is) (record {
@@ -107,7 +107,7 @@ grew-name d e OfLink w f is =
       fair = ordered-more (length (d .classes)) (length (d .links)) (length (d .classes)) (length (d .links ++ w ∷ [])) 0 (omega arith) (omega arith) (d .nodes) f;
     })
 
-module _ {S : Type 0} (v : S → Sheaf) where
+module _ {S : Type 0} (v : S → Contents) where
   abbrev labels : S → Sort → List ℕ → ℕ → S → Type 0
   labels d k w i e = Labels (v d) k w i (v e)
 
@@ -135,10 +135,10 @@ module _ {S : Type 0} (v : S → Sheaf) where
   enough (must k t) d e i (a, d₁, b, m) s = enough t d d₁ a b (enough-node d₁ e (Must k a) i m s)
 
   -- one part, two parts, and a link with a part
-  below : (d e : Sheaf) (a : ℕ) (t : Spelled) → Says d e a t → ltb a (length (e .nodes)) ≡ true
+  below : (d e : Contents) (a : ℕ) (t : Spelled) → Says d e a t → ltb a (length (e .nodes)) ≡ true
   below d e a t p = lt-ltb a (length (e .nodes)) (let h = p .last in omega arith)
 
-  link-name : (d e f : Sheaf) (r : List ℕ) (l : ℕ) → (l ≡ nextName OfLink d) × (e ≡ named OfLink r d) → Grew e f → (getD (f .links) l [] ≡ r) × (ltb l (length (f .links)) ≡ true)
+  link-name : (d e f : Contents) (r : List ℕ) (l : ℕ) → (l ≡ nextName OfLink d) × (e ≡ named OfLink r d) → Grew e f → (getD (f .links) l [] ≡ r) × (ltb l (length (f .links)) ≡ true)
   link-name d e f r l (at, is) g =
       let links : e .links ≡ d .links ++ r ∷ [] = ap (λ x. x .links) is in
       let long = ap length links ∙ length-push (d .links) r in

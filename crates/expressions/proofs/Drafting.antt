@@ -5,14 +5,14 @@ use mathlib.Core.List.{List, [], _∷_, _++_, map}
 use mathlib.Core.Path.{_≡_, sym, ap, subst, _∙_}
 use lib.ListN.{length}
 use Rattle.std.proofs.shelf.Lists.{length-map, map-push}
-use Rattle.expressions.specs.Draft.{Sheaf, named, nextName}
+use Rattle.expressions.specs.Draft.{Contents, named, nextName}
 use Rattle.terms.specs.Nodes.{nameBytes}
 use Rattle.names.specs.declared.named.Name.{Name}
 use Rattle.terms.specs.declared.nodes.Node.{Node}
 use Rattle.terms.specs.declared.nodes.Sort.{Sort}
 use Rattle.terms.specs.declared.nodes.Sort.the-variants.{OfClass, OfLink}
 
-abbrev viewed : List Name → List Name → List Node → Bool → Sheaf
+abbrev viewed : List Name → List Name → List Node → Bool → Contents
 viewed cs ls ns b = record { classes = map nameBytes cs; links = map nameBytes ls; nodes = ns; short = b }
 
 module _ (cs ls : List Name) (ns : List Node) (b : Bool) (n : Name) (i : ℕ) where

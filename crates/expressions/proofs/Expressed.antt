@@ -9,7 +9,7 @@ use lib.ListN.{length, getD, take, drop}
 use Rattle.std.proofs.shelf.Lists.{length-map}
 use Rattle.std.specs.Of.Vec.{vec-items}
 use Rattle.terms.specs.Built.{Built}
-use Rattle.expressions.specs.Draft.{Labels, Makes, sheaf}
+use Rattle.expressions.specs.Draft.{Labels, Makes, contents}
 use Rattle.expressions.specs.Expression.{termOf}
 use Rattle.names.specs.Name.{Legal, legal}
 use Rattle.terms.specs.Nodes.{nameBytes, ordered, spelled, tree, termAt}
@@ -30,10 +30,10 @@ use Rattle.terms.proofs.Whole.{is-read}
 -- reading
 
 abbrev labels : Draft → Sort → List ℕ → ℕ → Draft → Type 0
-labels d k w i e = Labels (sheaf d) k w i (sheaf e)
+labels d k w i e = Labels (contents d) k w i (contents e)
 
 abbrev makes : Draft → Node → ℕ → Draft → Type 0
-makes d n i e = Makes (sheaf d) n i (sheaf e)
+makes d n i e = Makes (contents d) n i (contents e)
 
 abbrev whole : Draft → Spelled
 whole e = termAt (vec-items (e .classes)) (vec-items (e .links)) (vec-items (e .nodes)) (length (vec-items (e .nodes)) - 1)
@@ -47,12 +47,12 @@ pub record Expressed (e : Draft) (text : List ℕ) : Type 0 where
 
 pub expressed : (d e : Draft) (t : Spelled) (i : ℕ) (text : List ℕ) → vec-items (d .nodes) ≡ [] → IsRead text t → Built labels makes t d i e → e .short ≡ false → Expressed e text
 expressed d e t i text none r b s =
-    let fair : Fair (sheaf d) = subst (λ ns. ordered (length (sheaf d .classes)) (length (sheaf d .links)) 0 ns ≡ true) (sym none) refl in
-    let h = says sheaf t d e i (r .readable .valid) fair b s in
+    let fair : Fair (contents d) = subst (λ ns. ordered (length (contents d .classes)) (length (contents d .links)) 0 ns ≡ true) (sym none) refl in
+    let h = says contents t d e i (r .readable .valid) fair b s in
     let last : i ≡ length (vec-items (e .nodes)) - 1 = let l = h .last in omega arith in
     let is : whole e ≡ t = ap (termAt (vec-items (e .classes)) (vec-items (e .links)) (vec-items (e .nodes))) (sym last) ∙ h .reads in
     record {
-      sorted = subst (λ n. ordered n (length (vec-items (e .links))) 0 (vec-items (e .nodes)) ≡ true) (length-map (vec-items (e .classes)) nameBytes) (subst (λ n. ordered (length (sheaf e .classes)) n 0 (vec-items (e .nodes)) ≡ true) (length-map (vec-items (e .links)) nameBytes) (h .grew .fair));
+      sorted = subst (λ n. ordered n (length (vec-items (e .links))) 0 (vec-items (e .nodes)) ≡ true) (length-map (vec-items (e .classes)) nameBytes) (subst (λ n. ordered (length (contents e .classes)) n 0 (vec-items (e .nodes)) ≡ true) (length-map (vec-items (e .links)) nameBytes) (h .grew .fair));
       some = let l = h .last in omega arith;
       shallow = subst (λ u. depth u ≤ 32) (sym is) (r .readable .shallow);
       long = ap length (sym (r .text) ∙ ap written (sym is));

@@ -2,7 +2,7 @@ ghost use mathlib.Core.List.{[]};
 ghost use mathlib.Core.Bool.{false};
 ghost use mathlib.Core.Path.{_≡_};
 ghost use Rattle.std.specs.Of.Vec.{vec-items};
-ghost use Rattle.expressions.specs.Draft.{Labels, Makes, sheaf};
+ghost use Rattle.expressions.specs.Draft.{Labels, Makes, contents};
 use names::Name;
 use std::alloc::Global;
 use terms::Builder;
@@ -33,9 +33,9 @@ impl Draft {
 }
 
 pub(crate) impl Builder for Draft as DraftBuilder {
-    ghost labels = { λ d k w i e. Labels (sheaf d) k w i (sheaf e) };
+    ghost labels = { λ d k w i e. Labels (contents d) k w i (contents e) };
 
-    ghost makes = { λ d n i e. Makes (sheaf d) n i (sheaf e) };
+    ghost makes = { λ d n i e. Makes (contents d) n i (contents e) };
 
     fn label(&mut self, sort: Sort, name: Name) -> usize {
         match sort {
