@@ -1,4 +1,6 @@
 // How fast terms are read and written, and registers proofread. Give it an argument to run.
+#![tactic(auto)]
+
 mod pieces;
 mod registers;
 

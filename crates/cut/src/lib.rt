@@ -1,4 +1,6 @@
 // A text cut at a byte: lines at byte 10, fields at byte 9.
+#![tactic(auto)]
+
 ghost use Rattle.std.specs.Prelude.{◌≡◌, ℕ, ◌+◌, ◌<◌, ◌≤◌, length, drop, ◌≢◌, slice_index};
 
 // How many bytes stand before the first `cut`, or before the end where there is none.

@@ -1,4 +1,6 @@
 // Keeping without repeats, once, for every kind whose values can be told alike or different.
+#![tactic(auto)]
+
 mod kind;
 mod table;
 

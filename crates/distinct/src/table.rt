@@ -7,8 +7,8 @@ use std::alloc::{AllocError, Global};
 
 // The place of the first item that is like `x`.
 fn position<T: Alike>(items: &[T], x: &T) -> Option<usize>
-    ensures value { result ≡ place (map shown items.now) (shown x.now) }
-    ensures cases { Found (map shown items.now) (shown x.now) result }
+    ensures value { result ≡ place (map T.shown items.now) (T.shown x.now) }
+    ensures cases { Found (map T.shown items.now) (T.shown x.now) result }
 {
     for (i, y) in items.iter().enumerate() {
         if y.alike(x) {
@@ -31,7 +31,7 @@ pub struct Distinct<T: Alike> {
 impl<T: Alike> Distinct<T> {
     // An empty table for at most `limit` entries.
     pub fn new(heap: Global, limit: usize) -> Result<Distinct<T>, AllocError>
-        ensures { IfOk result (λ d. (d.items.items ≡ []) × (d.limit ≡ limit) × Apart (map shown d.items.items)) }
+        ensures { IfOk result (λ d. (d.items.items ≡ []) × (d.limit ≡ limit) × Apart (map T.shown d.items.items)) }
     {
         Ok(Distinct {
             items: Vec::with_capacity(heap, limit)?,
@@ -53,8 +53,8 @@ impl<T: Alike> Distinct<T> {
 
     // The number of the one entry that is like `x`, if there is one.
     pub fn find(&self, x: &T) -> Option<usize>
-        ensures value { result ≡ place (map shown self.now.items.items) (shown x.now) }
-        ensures cases { Found (map shown self.now.items.items) (shown x.now) result }
+        ensures value { result ≡ place (map T.shown self.now.items.items) (T.shown x.now) }
+        ensures cases { Found (map T.shown self.now.items.items) (T.shown x.now) result }
     {
         position(self.as_slice(), x)
     }
@@ -64,10 +64,10 @@ impl<T: Alike> Distinct<T> {
     pub fn add(&mut self, x: T) -> Option<usize>
     where
         T: Drop,
-        ensures value { result ≡ added (map shown self.old.items.items) self.old.limit (shown x) }
-        ensures items { self.new.items.items ≡ entered shown self.old.items.items self.old.limit x }
+        ensures value { result ≡ added (map T.shown self.old.items.items) self.old.limit (T.shown x) }
+        ensures items { self.new.items.items ≡ entered T.shown self.old.items.items self.old.limit x }
         ensures limit { self.new.limit ≡ self.old.limit }
-        ensures apart { Apart (map shown self.old.items.items) → Apart (map shown self.new.items.items) }
+        ensures apart { Apart (map T.shown self.old.items.items) → Apart (map T.shown self.new.items.items) }
     {
         if let Some(i) = self.find(&x) {
             return Some(i);
@@ -100,7 +100,7 @@ impl<T: Alike> Distinct<T> {
         T: Drop,
         ensures items { self.new.items.items ≡ take n self.old.items.items }
         ensures limit { self.new.limit ≡ self.old.limit }
-        ensures apart { Apart (map shown self.old.items.items) → Apart (map shown self.new.items.items) }
+        ensures apart { Apart (map T.shown self.old.items.items) → Apart (map T.shown self.new.items.items) }
     {
         self.items.truncate(n);
     }

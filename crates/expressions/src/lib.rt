@@ -1,4 +1,6 @@
 // A term by itself: read from a text, and written into a buffer.
+#![tactic(auto)]
+
 mod drafts;
 mod expressing;
 mod kept;

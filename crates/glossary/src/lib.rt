@@ -1,4 +1,6 @@
 // Glosses of classes: which class refers to which through them, and whether one more would make a circle.
+#![tactic(auto)]
+
 mod asking;
 mod glosses;
 mod reaching;

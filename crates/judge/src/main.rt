@@ -1,4 +1,6 @@
 // A proofreader of terms: standard input has one term a line, and the report has one line for each.
+#![tactic(auto)]
+
 mod proofs;
 mod reports;
 

@@ -1,4 +1,6 @@
 // A register's lines, as far as they are about no sheet: cutting, letters, stages, and the line that tells a fault.
+#![tactic(auto)]
+
 mod buffers;
 mod fields;
 mod following;

@@ -1,4 +1,6 @@
 // Names, and the refusals that the layers above tell.
+#![tactic(auto)]
+
 mod letters;
 mod named;
 mod refusals;

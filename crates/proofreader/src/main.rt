@@ -1,5 +1,7 @@
 // The judge of registers. It proofreads one from standard input: it prints the register's heading and its first fault,
 // if it has one, and then how many lines of each kind were taken.
+#![tactic(auto)]
+
 use anyhow::anyhow;
 use names::Refusal;
 use register::proofread;

@@ -1,4 +1,6 @@
 // Registers: a file's lines, entered one by one into a sheet, and the report on them.
+#![tactic(auto)]
+
 mod fields;
 mod proofs;
 mod readings;

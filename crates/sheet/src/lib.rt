@@ -1,4 +1,6 @@
 // Sheets: glosses, statements and ties that were accepted, with all that was refused left out.
+#![tactic(auto)]
+
 mod calls;
 mod glossing;
 mod line;

@@ -1,4 +1,6 @@
 // The tables of a sheet's terms: names by number for each sort, and each different term once, within limits.
+#![tactic(auto)]
+
 mod building;
 mod entering;
 mod tables;

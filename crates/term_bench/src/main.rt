@@ -1,4 +1,6 @@
 // How fast terms are read and written: 1 MiB of terms, in pieces of 4 KiB and of 16 KiB. Give it an argument to run.
+#![tactic(auto)]
+
 mod pieces;
 
 use expressions::Expression;

@@ -1,5 +1,7 @@
 // Holds the reader of terms against a list of cases: a term in hexadecimal, a tab, and `ok` or a refusal's number and
 // place. A term that reads is also written back and compared.
+#![tactic(auto)]
+
 mod cases;
 mod hex;
 

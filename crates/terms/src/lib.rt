@@ -1,4 +1,6 @@
 // The language of terms: words and tokens, nodes, and reading a text with any builder.
+#![tactic(auto)]
+
 mod builders;
 mod checks;
 mod gaps;

@@ -1,6 +1,8 @@
 // Holds the reader of terms, the calls on a sheet and the proofreader of registers against listed cases, one a line: `T`, a
 // term in hexadecimal, and `ok` or a refusal's number and place; `C`, calls on one sheet and their answers, or `R`, a
 // register and its report, both in hexadecimal.
+#![tactic(auto)]
+
 mod calls_held;
 mod hex;
 mod registers_held;

@@ -1,4 +1,6 @@
 // The vocabulary of a sheet: names by number, each different term once, within limits; what a line or a query makes of it.
+#![tactic(auto)]
+
 mod calls;
 mod entries;
 mod inputs;
