@@ -120,8 +120,8 @@ pub write-node-returns-in-Forall : goal.write-node-returns-in-Forall
 write-node-returns-in-Forall t c =
     let n = node_text c.args.spelling.now.classes.now c.args.spelling.now.links.now c.args.spelling.now.nodes.now c.args.i _ c.requires.fit c.requires.within c.in-Forall.is in record { value = c.write-linked-in-Forall.ensures.value ∙ ap (λ x. c.args.at + length x) (sym n.2); after = c.write-linked-in-Forall.ensures.after ∙ ap (over c.args.out.now c.args.at) (sym n.2) }
 
-pub write-node-overflow-add-reader : goal.write-node-overflow-add-reader
-write-node-overflow-add-reader t c =
+pub write-node-overflow_add-reader : goal.write-node-overflow_add-reader
+write-node-overflow_add-reader t c =
     let n = node_text c.args.spelling.now.classes.now c.args.spelling.now.links.now c.args.spelling.now.nodes.now c.args.i _ c.requires.fit c.requires.within c.in-May.is in omega arith
 
 pub write-node-write-behind-requires-in-May : goal.write-node-write-behind-requires-in-May
@@ -132,8 +132,8 @@ pub write-node-returns-in-May : goal.write-node-returns-in-May
 write-node-returns-in-May t c =
     let n = node_text c.args.spelling.now.classes.now c.args.spelling.now.links.now c.args.spelling.now.nodes.now c.args.i _ c.requires.fit c.requires.within c.in-May.is in record { value = c.write-behind-in-May.ensures.value ∙ ap (λ x. c.args.at + length x) (sym n.2); after = c.write-behind-in-May.ensures.after ∙ ap (over c.args.out.now c.args.at) (sym n.2) }
 
-pub write-node-overflow-add-reader-in-Must : goal.write-node-overflow-add-reader-in-Must
-write-node-overflow-add-reader-in-Must t c =
+pub write-node-overflow_add-reader-in-Must : goal.write-node-overflow_add-reader-in-Must
+write-node-overflow_add-reader-in-Must t c =
     let n = node_text c.args.spelling.now.classes.now c.args.spelling.now.links.now c.args.spelling.now.nodes.now c.args.i _ c.requires.fit c.requires.within c.in-Must.is in omega arith
 
 pub write-node-write-behind-requires-in-Must : goal.write-node-write-behind-requires-in-Must

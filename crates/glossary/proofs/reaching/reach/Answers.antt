@@ -12,10 +12,10 @@ use Rattle.glossary.proofs.reaching.reach.Goals as goal
 
 pub returns : goal.returns
 returns c =
-    let x = c.in-ok-read.ensures in
+    let x = c.in_ok-read.ensures in
     let xs = vec_items c.args.classes.now.items in
     let e : Lexicon = record { names = map name_bytes xs; kept = vec_items c.args.glossary.now.records } in
-    let p = folded reacher_env reacher_flag reacher_raises x.0 (record { classes = c.args.classes; glossary = c.args.glossary; found = c.new.result }) c.in-ok-read.field-0 c.read.new.builder x.2 in (
+    let p = folded reacher_env reacher_flag reacher_raises x.0 (record { classes = c.args.classes; glossary = c.args.glossary; found = c.new.result }) c.in_ok-read.field-0 c.read.new.builder x.2 in (
       x.0,
       x.1,
       (λ f l. p.raised f ∙ ap (λ b. b || any_of (λ v. reacher_raises e v f) (class_names x.0)) (c.new.ensures f) ∙ any_same (λ v. reacher_raises e v f) (λ v. reaches e.names e.kept v f) (class_names x.0) (λ v. reaches_below e v f l)),

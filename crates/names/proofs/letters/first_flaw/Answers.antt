@@ -5,8 +5,8 @@ use Rattle.names.specs.Name.{flaw}
 use Rattle.names.proofs.Flaws.{scan_more, scan_stops, scan_ends}
 use Rattle.names.proofs.letters.first_flaw.Goals as goal
 
-pub returns-then-is-empty : goal.returns-then-is-empty
-returns-then-is-empty c = sym (ap (flaw 0) (nil_from_length c.args.word.now (eqb-true _ 0 (sym c.if-is-empty.ensures))))
+pub returns-then-is_empty : goal.returns-then-is_empty
+returns-then-is_empty c = sym (ap (flaw 0) (nil_from_length c.args.word.now (eqb-true _ 0 (sym c.if-is_empty.ensures))))
 
 pub returns-then-not-stands : goal.returns-then-not-stands
 returns-then-not-stands c =

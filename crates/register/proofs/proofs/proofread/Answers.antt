@@ -2,10 +2,10 @@ use Rattle.std.proofs.Common.{length, refl, ◌∙◌, inl, arith}
 use Rattle.register.proofs.Room.{no_room, all_written}
 use Rattle.register.proofs.proofs.proofread.Goals as goal
 
-pub returns-in-default-lay-out : goal.returns-in-default-lay-out
-returns-in-default-lay-out c =
-    let told = c.in-ok-last.ensures in
-    let short = c.in-default-lay-out.ensures in
+pub returns-in_default-lay-out : goal.returns-in_default-lay-out
+returns-in_default-lay-out c =
+    let told = c.in_ok-last.ensures in
+    let short = c.in_default-lay-out.ensures in
     record {
       why = inl (refl, no_room c.args.file.now c.read-file-stop.result c.read-file-stop.new.reading c.read-file-stop.ensures told.1 c.as-slice.result.now c.as-bytes.result.now c.as-slice.ensures.value (c.as-bytes.ensures.value ∙ told.0) (length c.args.out.now) short.0);
       kept = short.1;
@@ -13,6 +13,6 @@ returns-in-default-lay-out c =
 
 pub returns : goal.returns
 returns c =
-    let told = c.in-ok-last.ensures in
+    let told = c.in_ok-last.ensures in
     let laid = c.in-Some.ensures in
     all_written c.args.file.now c.read-file-stop.result c.read-file-stop.new.reading c.read-file-stop.ensures told.1 c.as-slice.result.now c.as-bytes.result.now c.as-slice.ensures.value (c.as-bytes.ensures.value ∙ told.0) c.args.out.now c.lay-out.new.out c.in-Some.len (omega (arith, c.min.ensures, c.if-out-min.false)) laid.0 laid.1

@@ -12,34 +12,34 @@ use Rattle.terms.proofs.readers.+joined_modal_negated_operation_part_quantified_
 
 pub joined-returns : goal.joined-returns
 joined-returns g t c =
-    let x = c.in-ok-a.ensures in
-    let y = c.in-ok-b.ensures in
+    let x = c.in_ok-a.ensures in
+    let y = c.in_ok-b.ensures in
     let j = c.args.join in
-    (joins j x.0 y.0, two_read c.args.total (parse c.args.total c.args.room) c.args.behind.now (joins j) x.1 y.1, join_built g.B.Builder.labels g.B.Builder.makes x.0 y.0 c.args.builder.now c.part.new.builder c.part-2.new.builder c.node.new.self c.in-ok-a.a.number c.in-ok-b.b.number c.node.result c.join-node.result j x.2 y.2 c.join-node.ensures c.node.ensures)
+    (joins j x.0 y.0, two_read c.args.total (parse c.args.total c.args.room) c.args.behind.now (joins j) x.1 y.1, join_built g.B.Builder.labels g.B.Builder.makes x.0 y.0 c.args.builder.now c.part.new.builder c.part-2.new.builder c.node.new.self c.in_ok-a.a.number c.in_ok-b.b.number c.node.result c.join-node.result j x.2 y.2 c.join-node.ensures c.node.ensures)
 
 pub modal-returns : goal.modal-returns
 modal-returns g t c =
-    let x = c.in-ok-a.ensures in
+    let x = c.in_ok-a.ensures in
     let m = modalizes c.args.modality c.args.reader in
-    (m x.0, one_read c.args.total (parse c.args.total c.args.room) c.args.behind.now m x.1, modal_built g.B.Builder.labels g.B.Builder.makes c.args.reader x.0 c.args.builder.now c.part.new.builder c.node.new.self c.in-ok-a.a.number c.node.result c.modal-node.result c.args.modality x.2 c.modal-node.ensures c.node.ensures)
+    (m x.0, one_read c.args.total (parse c.args.total c.args.room) c.args.behind.now m x.1, modal_built g.B.Builder.labels g.B.Builder.makes c.args.reader x.0 c.args.builder.now c.part.new.builder c.node.new.self c.in_ok-a.a.number c.node.result c.modal-node.result c.args.modality x.2 c.modal-node.ensures c.node.ensures)
 
 pub negated-returns : goal.negated-returns
 negated-returns g t c =
-    let x = c.in-ok-a.ensures in
-    (neg x.0, one_read c.args.total (parse c.args.total c.args.room) c.args.behind.now neg x.1, (c.in-ok-a.a.number, c.part.new.builder, x.2, c.node.ensures))
+    let x = c.in_ok-a.ensures in
+    (neg x.0, one_read c.args.total (parse c.args.total c.args.room) c.args.behind.now neg x.1, (c.in_ok-a.a.number, c.part.new.builder, x.2, c.node.ensures))
 
 pub quantified-name-at-requires : goal.quantified-name-at-requires
 quantified-name-at-requires g t c =
     let long = ap length c.split-word.ensures.word in
-    omega (arith, long, word_short c.in-ok-rest.rest.now, c.saturating-sub.ensures)
+    omega (arith, long, word_short c.in_ok-rest.rest.now, c.saturating-sub.ensures)
 
 pub quantified-returns : goal.quantified-returns
 quantified-returns g t c =
-    let x = c.in-ok-a.ensures in
+    let x = c.in_ok-a.ensures in
     let q = c.args.quantifier in
-    let n = c.in-ok-name.name in
+    let n = c.in_ok-name.name in
     let bytes = take n.len n.bytes in
-    (quantifies q bytes x.0, link_read c.args.total (parse c.args.total c.args.room) c.args.behind.now (quantifies q) c.in-ok-rest.rest.now c.split-word.result.0.now c.split-word.result.1.now c.in-ok-rest.ensures c.split-word.ensures.word c.split-word.ensures.behind (ap (λ p. named p c.split-word.result.0.now (flaw 0 c.split-word.result.0.now)) (sym c.saturating-sub.ensures) ∙ c.in-ok-name.ensures) x.1, quantifier_built g.B.Builder.labels g.B.Builder.makes bytes x.0 c.args.builder.now c.label-link.new.self c.part.new.builder c.node.new.self c.label-link.result c.in-ok-a.a.number c.node.result c.quantifier-node.result q c.label-link.ensures x.2 c.quantifier-node.ensures c.node.ensures)
+    (quantifies q bytes x.0, link_read c.args.total (parse c.args.total c.args.room) c.args.behind.now (quantifies q) c.in_ok-rest.rest.now c.split-word.result.0.now c.split-word.result.1.now c.in_ok-rest.ensures c.split-word.ensures.word c.split-word.ensures.behind (ap (λ p. named p c.split-word.result.0.now (flaw 0 c.split-word.result.0.now)) (sym c.saturating-sub.ensures) ∙ c.in_ok-name.ensures) x.1, quantifier_built g.B.Builder.labels g.B.Builder.makes bytes x.0 c.args.builder.now c.label-link.new.self c.part.new.builder c.node.new.self c.label-link.result c.in_ok-a.a.number c.node.result c.quantifier-node.result q c.label-link.ensures x.2 c.quantifier-node.ensures c.node.ensures)
 
 pub term-returns-then-room-eq0 : goal.term-returns-then-room-eq0
 term-returns-then-room-eq0 g t c = parse_none c.args.total c.args.room c.args.rest.now c.if-room-eq0.true ∙ ap (λ p. Err (TooDeep p)) (sym c.saturating-sub-place.ensures)

@@ -7,19 +7,19 @@ use Rattle.names.proofs.named.Name.new.Goals as goal
 pub returns-in-Some : goal.returns-in-Some
 returns-in-Some c = first_flaw_says _ _ (sym c.in-Some.ensures)
 
-pub slice-bounds-bytes-end : goal.slice-bounds-bytes-end
-slice-bounds-bytes-end c =
-    let n = legal_when c.args.word.now (sym c.in-default.ensures) in
+pub slice_bounds-bytes-end : goal.slice_bounds-bytes-end
+slice_bounds-bytes-end c =
+    let n = legal_when c.args.word.now (sym c.in_default.ensures) in
     let short : length c.args.word.now ≤ 16 = n.short in search rules
 
-pub invariant-of-result : goal.invariant-of-result
-invariant-of-result c =
-    let none = sym c.in-default.ensures in
-    let copied = c.copy-from-slice.ensures.after in
-    let is = take_at c.copy-from-slice.new.self _ (length c.args.word.now) (ap length copied) ∙ copied in
-    ((legal_when c.args.word.now none).short, (subst (λ w. legal w ≡ true) (sym is) (legal_is c.args.word.now none), tt))
+pub invariant_of-result : goal.invariant_of-result
+invariant_of-result c =
+    let none = sym c.in_default.ensures in
+    let copied = c.copy_from_slice.ensures.after in
+    let is = take_at c.copy_from_slice.new.self _ (length c.args.word.now) (ap length copied) ∙ copied in
+    record { short = (legal_when c.args.word.now none).short; fine = subst (λ w. legal w ≡ true) (sym is) (legal_is c.args.word.now none) }
 
 pub returns : goal.returns
 returns c =
-    let copied = c.copy-from-slice.ensures.after in
-    (take_at c.copy-from-slice.new.self _ (length c.args.word.now) (ap length copied) ∙ copied, legal_when c.args.word.now (sym c.in-default.ensures))
+    let copied = c.copy_from_slice.ensures.after in
+    (take_at c.copy_from_slice.new.self _ (length c.args.word.now) (ap length copied) ∙ copied, legal_when c.args.word.now (sym c.in_default.ensures))

@@ -5,7 +5,7 @@ use Rattle.register.proofs.readings.Reading.heading.Goals as goal
 pub returns : goal.returns
 returns c =
     record {
-      width = c.in-ok-fields.ensures.0;
+      width = c.in_ok-fields.ensures.0;
       content = refl;
       tally = refl;
       text = both_added c.extend-from-slice.result c.push.result (vec_items c.args.self.now.text) c.args.line.now (vec_items c.extend-from-slice.new.self) (vec_items c.push.new.self) c.if-is-err.ensures.value c.if-is-err-2.ensures.value c.extend-from-slice.ensures.items c.push.ensures.items;

@@ -2,12 +2,12 @@ use Rattle.std.proofs.lemmas.Result.{err_from_is_err_and}
 use Rattle.register.proofs.Taking.{line_taken, line_text, line_refused}
 use Rattle.register.proofs.readings.Reading.line.Goals as goal
 
-pub returns-in-err-enter : goal.returns-in-err-enter
-returns-in-err-enter c =
+pub returns-in_err-enter : goal.returns-in_err-enter
+returns-in_err-enter c =
     let p = err_from_is_err_and c.from-residual.result c.from-residual.ensures.1 in
-    rw (p.1, p.2) (line_refused c.args.line.now c.args.self.now c.enter.new.self c.in-Some.kind c.in-Some-follow.stage c.in-Some.ensures c.in-Some-follow.ensures c.in-err-enter.field-0.0 c.in-err-enter.ensures)
+    rw (p.1, p.2) (line_refused c.args.line.now c.args.self.now c.enter.new.self c.in-Some.kind c.in-Some-follow.stage c.in-Some.ensures c.in-Some-follow.ensures c.in_err-enter.field-0.0 c.in_err-enter.ensures)
 
 pub returns : goal.returns
 returns c =
-    let took = c.in-ok-enter.ensures in
+    let took = c.in_ok-enter.ensures in
     (line_taken c.args.line.now c.args.self.now c.enter.new.self c.in-Some.kind c.in-Some-follow.stage c.in-Some.ensures c.in-Some-follow.ensures took, line_text c.args.line.now c.args.self.now c.enter.new.self c.in-Some.kind c.in-Some-follow.stage c.in-Some.ensures c.in-Some-follow.ensures took)

@@ -5,8 +5,8 @@ use Rattle.sheet.specs.Counts.{statements_in}
 use Rattle.sheet.specs.declared.line.Line.TheVariants.{Tie}
 use Rattle.sheet.proofs.lines.Lines.add_tie.Goals as goal
 
-pub invariant-of-self : goal.invariant-of-self
-invariant-of-self c =
+pub invariant_of-self : goal.invariant_of-self
+invariant_of-self c =
     let ls = vec_items c.args.self.now.items in
     let line = Tie c.args.placed.link c.args.placed.from c.args.placed.to in
     let s = ap statements_in c.push-reserved.ensures.items ∙ count_tie ls c.args.placed.link c.args.placed.from c.args.placed.to in

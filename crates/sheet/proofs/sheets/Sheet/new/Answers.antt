@@ -7,21 +7,21 @@ use Rattle.vocabulary.proofs.Props.{in_order}
 use Rattle.vocabulary.specs.Held.{held_by}
 use Rattle.sheet.proofs.sheets.Sheet.new.Goals as goal
 
-pub returns-in-err-new : goal.returns-in-err-new
-returns-in-err-new c = record { empty = search rules; histories = (faithful, repeatable, lasting) }
+pub returns-in_err-new : goal.returns-in_err-new
+returns-in_err-new c = record { empty = search rules; histories = (faithful, repeatable, lasting) }
 
-pub returns-in-err-new-2 : goal.returns-in-err-new-2
-returns-in-err-new-2 c = record { empty = search rules; histories = (faithful, repeatable, lasting) }
+pub returns-in_err-new-2 : goal.returns-in_err-new-2
+returns-in_err-new-2 c = record { empty = search rules; histories = (faithful, repeatable, lasting) }
 
-pub returns-in-err-new-3 : goal.returns-in-err-new-3
-returns-in-err-new-3 c = record { empty = search rules; histories = (faithful, repeatable, lasting) }
+pub returns-in_err-new-3 : goal.returns-in_err-new-3
+returns-in_err-new-3 c = record { empty = search rules; histories = (faithful, repeatable, lasting) }
 
-pub invariant-of-result : goal.invariant-of-result
-invariant-of-result c =
-    let s = store_of (record { vocabulary = c.in-ok-new.field-0; glossary = c.in-ok-new-2.field-0; lines = c.in-ok-new-3.field-0 }) in
-    (∣ (fresh s c.in-ok-new.ensures (in_order s.held c.in-ok-new.field-0.order) c.in-ok-new-2.ensures.0 c.in-ok-new-2.ensures.1 c.in-ok-new-3.ensures).0 ∣₁, tt)
+pub invariant_of-result : goal.invariant_of-result
+invariant_of-result c =
+    let s = store_of (record { vocabulary = c.in_ok-new.field-0; glossary = c.in_ok-new-2.field-0; lines = c.in_ok-new-3.field-0 }) in
+    (∣ (fresh s c.in_ok-new.ensures (in_order s.held c.in_ok-new.field-0.order) c.in_ok-new-2.ensures.0 c.in_ok-new-2.ensures.1 c.in_ok-new-3.ensures).0 ∣₁, tt)
 
 pub returns : goal.returns
 returns c =
-    let s = store_of (record { vocabulary = c.in-ok-new.field-0; glossary = c.in-ok-new-2.field-0; lines = c.in-ok-new-3.field-0 }) in
-    record { empty = (fresh s c.in-ok-new.ensures (in_order s.held c.in-ok-new.field-0.order) c.in-ok-new-2.ensures.0 c.in-ok-new-2.ensures.1 c.in-ok-new-3.ensures).1; histories = (faithful, repeatable, lasting) }
+    let s = store_of (record { vocabulary = c.in_ok-new.field-0; glossary = c.in_ok-new-2.field-0; lines = c.in_ok-new-3.field-0 }) in
+    record { empty = (fresh s c.in_ok-new.ensures (in_order s.held c.in_ok-new.field-0.order) c.in_ok-new-2.ensures.0 c.in_ok-new-2.ensures.1 c.in_ok-new-3.ensures).1; histories = (faithful, repeatable, lasting) }

@@ -2,8 +2,8 @@ use Rattle.sheet.proofs.Promises.{kept_order, kept_told}
 use Rattle.sheet.specs.Store.{store_of}
 use Rattle.sheet.proofs.sheets.Sheet.state.Goals as goal
 
-pub invariant-of-self : goal.invariant-of-self
-invariant-of-self c = (kept_order _ c.state.result (store_of c.args.self.now.page) (store_of c.state.new.self) c.args.self.now.fair c.state.ensures, tt)
+pub invariant_of-self : goal.invariant_of-self
+invariant_of-self c = (kept_order _ c.state.result (store_of c.args.self.now.page) (store_of c.state.new.self) c.args.self.now.fair c.state.ensures, tt)
 
 pub returns : goal.returns
 returns c = record { told = kept_told _ c.state.result (store_of c.args.self.now.page) (store_of c.state.new.self) c.args.self.now.fair c.state.ensures }

@@ -5,5 +5,5 @@ use Rattle.tables.proofs.tables.Tables.build.Goals as goal
 
 pub returns : goal.returns
 returns c =
-    let x = c.in-ok-number.ensures in
-    (x.0, x.1, built_is book_of x.0 c.args.self.now c.in-ok-number.number c.read.new.builder (book_of c.args.self.now) refl x.2)
+    let x = c.in_ok-number.ensures in
+    (x.0, x.1, built_is book_of x.0 c.args.self.now c.in_ok-number.number c.read.new.builder (book_of c.args.self.now) refl x.2)

@@ -9,34 +9,34 @@ use Rattle.tables.proofs.tables.Tables.enter.Goals as goal
 pub returns-then-self : goal.returns-then-self
 returns-then-self c =
     let b = book_of c.args.self.now in
-    let x = c.in-ok-number.ensures in
-    let is = subst (λ d. Is (entered x.0 d) (book_of c.build.new.self) c.in-ok-number.number) c.lower.ensures x.2 in
+    let x = c.in_ok-number.ensures in
+    let is = subst (λ d. Is (entered x.0 d) (book_of c.build.new.self) c.in_ok-number.number) c.lower.ensures x.2 in
     let m = c.mark-mark.ensures in
     record {
       steps = (inr (x.0, x.1, inl (refl, sym (ap (λ d. d.names_full) is.book) ∙ c.if-self.true)), c.undo.ensures ∙ restored b x.0 c.mark-mark.result (book_of c.build.new.self) is.book m.book.0 m.book.1 m.book.2 m.flags.0 m.flags.1);
-      law = λ s r. names_lack b c.args.text.now x.0 x.1 s r (book_of c.build.new.self) c.in-ok-number.number is c.if-self.true;
+      law = λ s r. names_lack b c.args.text.now x.0 x.1 s r (book_of c.build.new.self) c.in_ok-number.number is c.if-self.true;
       kept = c.undo.ensures ∙ restored b x.0 c.mark-mark.result (book_of c.build.new.self) is.book m.book.0 m.book.1 m.book.2 m.flags.0 m.flags.1;
     }
 
 pub returns-then-self-2 : goal.returns-then-self-2
 returns-then-self-2 c =
     let b = book_of c.args.self.now in
-    let x = c.in-ok-number.ensures in
-    let is = subst (λ d. Is (entered x.0 d) (book_of c.build.new.self) c.in-ok-number.number) c.lower.ensures x.2 in
+    let x = c.in_ok-number.ensures in
+    let is = subst (λ d. Is (entered x.0 d) (book_of c.build.new.self) c.in_ok-number.number) c.lower.ensures x.2 in
     let m = c.mark-mark.ensures in
     record {
       steps = (inr (x.0, x.1, inr (refl, sym (ap (λ d. d.names_full) is.book) ∙ c.if-self.false, sym (ap (λ d. d.terms_full) is.book) ∙ c.if-self-2.true)), c.undo-then-self-2.ensures ∙ restored b x.0 c.mark-mark.result (book_of c.build.new.self) is.book m.book.0 m.book.1 m.book.2 m.flags.0 m.flags.1);
-      law = λ s r. terms_lack b c.args.text.now x.0 x.1 s r (book_of c.build.new.self) c.in-ok-number.number is c.if-self.false c.if-self-2.true;
+      law = λ s r. terms_lack b c.args.text.now x.0 x.1 s r (book_of c.build.new.self) c.in_ok-number.number is c.if-self.false c.if-self-2.true;
       kept = c.undo-then-self-2.ensures ∙ restored b x.0 c.mark-mark.result (book_of c.build.new.self) is.book m.book.0 m.book.1 m.book.2 m.flags.0 m.flags.1;
     }
 
 pub returns : goal.returns
 returns c =
     let b = book_of c.args.self.now in
-    let x = c.in-ok-number.ensures in
-    let is = subst (λ d. Is (entered x.0 d) (book_of c.build.new.self) c.in-ok-number.number) c.lower.ensures x.2 in
+    let x = c.in_ok-number.ensures in
+    let is = subst (λ d. Is (entered x.0 d) (book_of c.build.new.self) c.in_ok-number.number) c.lower.ensures x.2 in
     record {
-      steps = (x.0, x.1, entry x.0 (lowered b) c.in-ok-number.number (book_of c.build.new.self) x.1.readable.valid is, c.if-self.false, c.if-self-2.false);
-      law = λ s r. let e = enters b c.args.text.now x.0 x.1 s r (book_of c.build.new.self) c.in-ok-number.number is c.if-self.false c.if-self-2.false in (x.0, x.1, e.0, e.1);
+      steps = (x.0, x.1, entry x.0 (lowered b) c.in_ok-number.number (book_of c.build.new.self) x.1.readable.valid is, c.if-self.false, c.if-self-2.false);
+      law = λ s r. let e = enters b c.args.text.now x.0 x.1 s r (book_of c.build.new.self) c.in_ok-number.number is c.if-self.false c.if-self-2.false in (x.0, x.1, e.0, e.1);
       kept = tt;
     }

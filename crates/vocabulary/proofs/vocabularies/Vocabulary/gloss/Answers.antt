@@ -4,8 +4,8 @@ use Rattle.vocabulary.specs.Entries.{GlossAt}
 use Rattle.vocabulary.specs.Held.{held_by}
 use Rattle.vocabulary.proofs.vocabularies.Vocabulary.gloss.Goals as goal
 
-pub invariant-of-self : goal.invariant-of-self
-invariant-of-self c =
+pub invariant_of-self : goal.invariant_of-self
+invariant_of-self c =
     let v = c.args.self.now in
     (∣ entered_order _ c.gloss.result GlossAt (held_by v.words) (held_by c.gloss.new.self) (in_order (held_by v.words) v.order) c.gloss.ensures ∣₁, tt)
 

@@ -1,4 +1,4 @@
 use Rattle.vocabulary.proofs.vocabularies.Vocabulary.new.Goals as goal
 
-pub invariant-of-result : goal.invariant-of-result
-invariant-of-result c = (∣ c.in-ok-words.ensures.1 ∣₁, tt)
+pub invariant_of-result : goal.invariant_of-result
+invariant_of-result c = (∣ c.in_ok-words.ensures.1 ∣₁, tt)

@@ -5,8 +5,8 @@ use Rattle.vocabulary.specs.Held.{held_by, lexicon}
 use Rattle.vocabulary.specs.Placing.{state_words}
 use Rattle.vocabulary.proofs.vocabularies.Vocabulary.statement.Goals as goal
 
-pub invariant-of-self : goal.invariant-of-self
-invariant-of-self c =
+pub invariant_of-self : goal.invariant_of-self
+invariant_of-self c =
     let v = c.args.self.now in
     (∣ entered_order (state_words (lexicon (held_by v.words)) c.args.item.now c.args.term.now c.args.room) c.statement.result StatementAt (held_by v.words) (held_by c.statement.new.self) (in_order (held_by v.words) v.order) c.statement.ensures ∣₁, tt)
 

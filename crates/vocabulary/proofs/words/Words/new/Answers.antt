@@ -6,6 +6,6 @@ use Rattle.vocabulary.proofs.words.Words.new.Goals as goal
 
 pub returns : goal.returns
 returns c =
-    let t = c.in-ok-new.ensures in
-    let d = c.in-ok-new-2.ensures in
-    fresh (held_by (record { tables = c.in-ok-new.field-0; items = c.in-ok-new-2.field-0 })) (ap (map name_bytes) t.empty.0) (ap (map name_bytes) t.empty.1) t.empty.2 (ap (map name_bytes) d.0) t.limits.0 t.limits.1 t.limits.2 d.1
+    let t = c.in_ok-new.ensures in
+    let d = c.in_ok-new-2.ensures in
+    fresh (held_by (record { tables = c.in_ok-new.field-0; items = c.in_ok-new-2.field-0 })) (ap (map name_bytes) t.empty.0) (ap (map name_bytes) t.empty.1) t.empty.2 (ap (map name_bytes) d.0) t.limits.0 t.limits.1 t.limits.2 d.1
