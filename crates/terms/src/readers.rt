@@ -61,7 +61,7 @@ pub(crate) fn term<'a, B: Builder>(
     total: usize,
     room: usize,
 ) -> Result<Part<'a>, Refusal>
-    ensures { Outcome labels makes (parse total room rest.now) builder.old result builder.new }
+    ensures { Outcome B.labels B.makes (parse total room rest.now) builder.old result builder.new }
 {
     let place = total.saturating_sub(rest.len());
     if room == 0 {
@@ -94,7 +94,7 @@ fn operation<'a, B: Builder>(
     total: usize,
     room: usize,
 ) -> Result<Part<'a>, Refusal>
-    ensures { Outcome labels makes (operated total (parse total room) behind.now operator) builder.old result builder.new }
+    ensures { Outcome B.labels B.makes (operated total (parse total room) behind.now operator) builder.old result builder.new }
 {
     match operator {
         Operator::Top => Ok(Part {
@@ -119,7 +119,7 @@ fn part<'a, B: Builder>(
     total: usize,
     room: usize,
 ) -> Result<Part<'a>, Refusal>
-    ensures { Outcome labels makes (next_part total (parse total room) behind.now) builder.old result builder.new }
+    ensures { Outcome B.labels B.makes (next_part total (parse total room) behind.now) builder.old result builder.new }
 {
     match next_word(behind, total) {
         Ok(rest) => term(builder, rest, total, room),
@@ -134,7 +134,7 @@ fn negated<'a, B: Builder>(
     total: usize,
     room: usize,
 ) -> Result<Part<'a>, Refusal>
-    ensures { Outcome labels makes (one_part total (parse total room) behind.now neg) builder.old result builder.new }
+    ensures { Outcome B.labels B.makes (one_part total (parse total room) behind.now neg) builder.old result builder.new }
 {
     let a = part(builder, behind, total, room)?;
     Ok(Part {
@@ -152,7 +152,7 @@ fn modal<'a, B: Builder>(
     total: usize,
     room: usize,
 ) -> Result<Part<'a>, Refusal>
-    ensures { Outcome labels makes (one_part total (parse total room) behind.now (modalizes modality reader)) builder.old result builder.new }
+    ensures { Outcome B.labels B.makes (one_part total (parse total room) behind.now (modalizes modality reader)) builder.old result builder.new }
 {
     let a = part(builder, behind, total, room)?;
     Ok(Part {
@@ -169,7 +169,7 @@ fn joined<'a, B: Builder>(
     total: usize,
     room: usize,
 ) -> Result<Part<'a>, Refusal>
-    ensures { Outcome labels makes (two_parts total (parse total room) behind.now (joins join)) builder.old result builder.new }
+    ensures { Outcome B.labels B.makes (two_parts total (parse total room) behind.now (joins join)) builder.old result builder.new }
 {
     let a = part(builder, behind, total, room)?;
     let b = part(builder, a.behind, total, room)?;
@@ -187,7 +187,7 @@ fn quantified<'a, B: Builder>(
     total: usize,
     room: usize,
 ) -> Result<Part<'a>, Refusal>
-    ensures { Outcome labels makes (linked total (parse total room) behind.now (quantifies quantifier)) builder.old result builder.new }
+    ensures { Outcome B.labels B.makes (linked total (parse total room) behind.now (quantifies quantifier)) builder.old result builder.new }
 {
     let rest = next_word(behind, total)?;
     let (word, behind) = split_word(rest);
@@ -208,7 +208,7 @@ fn class<'a, B: Builder>(
     behind: &'a [u8],
 ) -> Result<Part<'a>, Refusal>
     requires { place + length word.now < 2 ^ 64 }
-    ensures { Outcome labels makes (only_class place word.now behind.now) builder.old result builder.new }
+    ensures { Outcome B.labels B.makes (only_class place word.now behind.now) builder.old result builder.new }
 {
     let name = name_at(word, place)?;
     let class = builder.label(Sort::OfClass, name);

@@ -35,7 +35,7 @@ fn finish(behind: &[u8], total: usize) -> Result<(), Refusal>
 // Reads a text as a term, from left to right, and has `builder` number its names and nodes: the term's own number,
 // or the fault at the leftmost place.
 pub fn read<B: Builder>(builder: &mut B, text: &[u8]) -> Result<usize, Refusal>
-    ensures { MatchResult result (λ i. (t : Spelled) × IsRead text.now t × Built labels makes t builder.old i builder.new) (λ e. IsRefused text.now e) }
+    ensures { MatchResult result (λ i. (t : Spelled) × IsRead text.now t × Built B.labels B.makes t builder.old i builder.new) (λ e. IsRefused text.now e) }
 {
     let part = term(builder, first_word(text)?, text.len(), DEPTH)?;
     finish(part.behind, text.len())?;

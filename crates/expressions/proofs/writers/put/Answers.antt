@@ -3,4 +3,4 @@ use Rattle.expressions.proofs.Buffers.{put_is}
 use Rattle.expressions.proofs.writers.put.Goals as goal
 
 pub returns : goal.returns
-returns c = record { value = refl; after = put_is c.args.out.now c.args.at _ c.args.bytes.now c.copy-from-slice.new.self (omega arith) c.copy-from-slice.ensures.after }
+returns c = record { value = refl; after = put_is c.args.out.now c.args.at _ c.args.bytes.now c.copy_from_slice.new.self (omega arith) c.copy_from_slice.ensures.after }

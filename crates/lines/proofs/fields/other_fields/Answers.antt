@@ -6,4 +6,4 @@ use Rattle.lines.proofs.fields.other_fields.Goals as goal
 pub returns : goal.returns
 returns c k =
     ap (λ s. get_or (pieces 9 s) k []) c.behind.ensures.rest
-    ∙ later_piece 9 c.args.line.now c.piece-length.result c.piece-length.ensures.before c.piece-length.ensures.found k
+    ∙ later_piece 9 c.args.line.now c.piece_length.result c.piece_length.ensures.before c.piece_length.ensures.found k

@@ -14,7 +14,7 @@ loop-line-preserved c =
 
 pub returns-in_err-fault : goal.returns-in_err-fault
 returns-in_err-fault c =
-    rw c.from-residual.ensures (walk_ends _ c.loop-line.number c.loop-line.rest.now c.loop-line.reading c.loop-line.invariant.0 c.in_default.ensures c.in_err-fault.ensures)
+    rw c.from_residual.ensures (walk_ends _ c.loop-line.number c.loop-line.rest.now c.loop-line.reading c.loop-line.invariant.0 c.in_default.ensures c.in_err-fault.ensures)
 
 pub returns : goal.returns
 returns c =

@@ -10,5 +10,5 @@ pub returns : goal.returns
 returns c =
     let s = c.spelling-spelling.ensures in
     let text = same_text s.classes s.links s.nodes in
-    let ends = c.write-node.ensures.value ∙ zero-add _ ∙ ap length text in
-    record { text = (ends, c.write-node.ensures.after ∙ ap (over c.args.out.now 0) text ∙ over_start c.args.out.now _ c.write-node.result ends); back = reads_back c.args.self.now }
+    let ends = c.write_node.ensures.value ∙ zero-add _ ∙ ap length text in
+    record { text = (ends, c.write_node.ensures.after ∙ ap (over c.args.out.now 0) text ∙ over_start c.args.out.now _ c.write_node.result ends); back = reads_back c.args.self.now }

@@ -15,7 +15,7 @@ returns-then-alike c =
     let t : finder_raises (finder_env s) v 0 ≡ true =
     elim c.then-alike.branch [
       | then-alike-via-then-alike x ↦ or_left (bytes_eq v w) _ (alike_true c.alike.result v w c.alike.ensures x.if-alike.true)
-      | then-alike-via-else-alike+then-refers x ↦ or_right (bytes_eq v w) _ (refers_told (finder_env s) v x.number_of_lem.ensures x.number-of-else-alike.ensures (sym x.refers.ensures ∙ x.if-refers.true))
+      | then-alike-via-else-alike+then-refers x ↦ or_right (bytes_eq v w) _ (refers_told (finder_env s) v x.number_of_lem.ensures x.number_of-else-alike.ensures (sym x.refers.ensures ∙ x.if-refers.true))
     ] in
     finder_hits s c.args.sort v c.in-OfClass.is t
 
@@ -25,4 +25,4 @@ returns-else-refers c =
     let v = name_bytes c.args.name in
     let w = name_bytes s.class.now in
     finder_passes s c.args.sort v c.in-OfClass.is
-    (or_from (bytes_eq v w) _ (alike_false c.alike.result v w c.alike.ensures c.if-alike.false) (refers_told (finder_env s) v c.number-of.ensures c.number-of-else-alike.ensures (sym c.refers.ensures ∙ c.if-refers.false)))
+    (or_from (bytes_eq v w) _ (alike_false c.alike.result v w c.alike.ensures c.if-alike.false) (refers_told (finder_env s) v c.number_of.ensures c.number_of-else-alike.ensures (sym c.refers.ensures ∙ c.if-refers.false)))

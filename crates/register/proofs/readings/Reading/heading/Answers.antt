@@ -8,5 +8,5 @@ returns c =
       width = c.in_ok-fields.ensures.0;
       content = refl;
       tally = refl;
-      text = both_added c.extend-from-slice.result c.push.result (vec_items c.args.self.now.text) c.args.line.now (vec_items c.extend-from-slice.new.self) (vec_items c.push.new.self) c.if-is-err.ensures.value c.if-is-err-2.ensures.value c.extend-from-slice.ensures.items c.push.ensures.items;
+      text = both_added c.extend_from_slice.result c.push.result (vec_items c.args.self.now.text) c.args.line.now (vec_items c.extend_from_slice.new.self) (vec_items c.push.new.self) c.if-is_err.ensures.value c.if-is_err-2.ensures.value c.extend_from_slice.ensures.items c.push.ensures.items;
     }

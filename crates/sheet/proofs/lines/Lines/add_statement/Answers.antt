@@ -9,9 +9,9 @@ pub invariant_of-self : goal.invariant_of-self
 invariant_of-self c =
     let ls = vec_items c.args.self.now.items in
     let line = Statement c.args.placed.item c.args.placed.term in
-    let s = ap statements_in c.push-reserved.ensures.items ∙ count_statement ls c.args.placed.item c.args.placed.term in
+    let s = ap statements_in c.push_reserved.ensures.items ∙ count_statement ls c.args.placed.item c.args.placed.term in
     let was = c.args.self.now.counted in
-    let long = ap length c.push-reserved.ensures.items ∙ length_push ls line in
+    let long = ap length c.push_reserved.ensures.items ∙ length_push ls line in
     let all = c.args.self.now.rest in
     let p = c.requires in
-    (omega arith, (omega arith, (omega arith, (omega (arith, c.push-reserved.ensures.capacity, c.args.self.now.room), tt))))
+    (omega arith, (omega arith, (omega arith, (omega (arith, c.push_reserved.ensures.capacity, c.args.self.now.room), tt))))

@@ -9,9 +9,9 @@ pub invariant_of-self : goal.invariant_of-self
 invariant_of-self c =
     let ls = vec_items c.args.self.now.items in
     let line = Tie c.args.placed.link c.args.placed.from c.args.placed.to in
-    let s = ap statements_in c.push-reserved.ensures.items ∙ count_tie ls c.args.placed.link c.args.placed.from c.args.placed.to in
+    let s = ap statements_in c.push_reserved.ensures.items ∙ count_tie ls c.args.placed.link c.args.placed.from c.args.placed.to in
     let was = c.args.self.now.counted in
-    let long = ap length c.push-reserved.ensures.items ∙ length_push ls line in
+    let long = ap length c.push_reserved.ensures.items ∙ length_push ls line in
     let all = c.args.self.now.rest in
     let p = c.requires in
-    (omega arith, (c.args.self.now.few, (omega arith, (omega (arith, c.push-reserved.ensures.capacity, c.args.self.now.room), tt))))
+    (omega arith, (c.args.self.now.few, (omega arith, (omega (arith, c.push_reserved.ensures.capacity, c.args.self.now.room), tt))))

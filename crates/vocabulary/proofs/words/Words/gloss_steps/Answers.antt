@@ -7,11 +7,11 @@ use Rattle.vocabulary.proofs.words.Words.gloss_steps.Goals as goal
 pub returns-in_err-term : goal.returns-in_err-term
 returns-in_err-term c =
     λ t read s.
-    let p = err_from_is_err_and c.from-residual-in-err-term.result c.from-residual-in-err-term.ensures.1 in
+    let p = err_from_is_err_and c.from_residual-in_err-term.result c.from_residual-in_err-term.ensures.1 in
     rw (p.1, p.2)
-    (gloss_stops (name_bytes c.args.class) t (held_by c.args.self.now) (held_by c.place-class.new.self) (held_by c.place-term.new.self) s c.in_ok-class.class c.in_ok-class.ensures c.in_err-term.field-0.0 (λ o. c.in_err-term.ensures t read o))
+    (gloss_stops (name_bytes c.args.class) t (held_by c.args.self.now) (held_by c.place_class.new.self) (held_by c.place_term.new.self) s c.in_ok-class.class c.in_ok-class.ensures c.in_err-term.field-0.0 (λ o. c.in_err-term.ensures t read o))
 
 pub returns : goal.returns
 returns c =
     λ t read s.
-    gloss_goes (name_bytes c.args.class) t (held_by c.args.self.now) (held_by c.place-class.new.self) (held_by c.place-term.new.self) s c.in_ok-class.class c.in_ok-class.ensures c.in_ok-term.term (λ o. c.in_ok-term.ensures t read o)
+    gloss_goes (name_bytes c.args.class) t (held_by c.args.self.now) (held_by c.place_class.new.self) (held_by c.place_term.new.self) s c.in_ok-class.class c.in_ok-class.ensures c.in_ok-term.term (λ o. c.in_ok-term.ensures t read o)

@@ -7,8 +7,8 @@ use Rattle.vocabulary.proofs.words.Words.place_link.Goals as goal
 
 pub returns-in-Some : goal.returns-in-Some
 returns-in-Some c =
-    link_placed c.args.field (name_bytes c.args.name) (held_by c.args.self.now) c.in-Some.i (book_of c.add-link.new.self) c.args.name.fine (sym c.in-Some.ensures.value) c.add-link.ensures.book
+    link_placed c.args.field (name_bytes c.args.name) (held_by c.args.self.now) c.in-Some.i (book_of c.add_link.new.self) c.args.name.fine (sym c.in-Some.ensures.value) c.add_link.ensures.book
 
 pub returns-in-None : goal.returns-in-None
 returns-in-None c =
-    link_full c.args.field (name_bytes c.args.name) (held_by c.args.self.now) (book_of c.add-link.new.self) (sym c.in-None.ensures.value) c.add-link.ensures.book
+    link_full c.args.field (name_bytes c.args.name) (held_by c.args.self.now) (book_of c.add_link.new.self) (sym c.in-None.ensures.value) c.add_link.ensures.book

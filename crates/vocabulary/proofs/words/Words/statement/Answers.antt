@@ -10,6 +10,6 @@ pub returns-in-Err : goal.returns-in-Err
 returns-in-Err c =
     λ s.
     let h = held_by c.args.self.now in
-    let (t, read) = c.in_ok-check-in.ensures in
-    let (told, back) = taken_back (state_steps (lexicon h) (name_bytes c.in_ok-name.name) t c.args.room) c.in-Err.fault h (held_by c.statement-steps.new.self) (held_by c.undo.new.self) c.mark-mark.result c.mark-mark.ensures (c.in-Err.ensures t read s) c.undo.ensures in
+    let (t, read) = c.in_ok-check_in.ensures in
+    let (told, back) = taken_back (state_steps (lexicon h) (name_bytes c.in_ok-name.name) t c.args.room) c.in-Err.fault h (held_by c.statement_steps.new.self) (held_by c.undo.new.self) c.mark-mark.result c.mark-mark.ensures (c.in-Err.ensures t read s) c.undo.ensures in
     (statement_read (lexicon h) c.args.item.now c.args.term.now (name_bytes c.in_ok-name.name) t c.args.room c.in_ok-name.ensures read ∙ told, back)

@@ -7,23 +7,23 @@ use Rattle.vocabulary.proofs.words.Words.tie_steps.Goals as goal
 pub returns-in_err-from : goal.returns-in_err-from
 returns-in_err-from c =
     λ s.
-    let p = err_from_is_err_and c.from-residual-in-err-from.result c.from-residual-in-err-from.ensures.1 in
+    let p = err_from_is_err_and c.from_residual-in_err-from.result c.from_residual-in_err-from.ensures.1 in
     rw (p.1, p.2)
-    (tie_stops_from (name_bytes c.args.link) (name_bytes c.args.from) (name_bytes c.args.to) c.args.room (held_by c.args.self.now) (held_by c.place-link.new.self) s c.in_ok-link.link c.in_ok-link.ensures (held_by c.place-item.new.self) c.in_err-from.field-0.0 c.in_err-from.ensures)
+    (tie_stops_from (name_bytes c.args.link) (name_bytes c.args.from) (name_bytes c.args.to) c.args.room (held_by c.args.self.now) (held_by c.place_link.new.self) s c.in_ok-link.link c.in_ok-link.ensures (held_by c.place_item.new.self) c.in_err-from.field-0.0 c.in_err-from.ensures)
 
 pub returns-in_err-to : goal.returns-in_err-to
 returns-in_err-to c =
     λ s.
-    let p = err_from_is_err_and c.from-residual-in-err-to.result c.from-residual-in-err-to.ensures.1 in
+    let p = err_from_is_err_and c.from_residual-in_err-to.result c.from_residual-in_err-to.ensures.1 in
     rw (p.1, p.2)
-    (tie_stops_to (name_bytes c.args.link) (name_bytes c.args.from) (name_bytes c.args.to) c.args.room (held_by c.args.self.now) (held_by c.place-link.new.self) s c.in_ok-link.link c.in_ok-link.ensures (held_by c.place-item.new.self) (held_by c.place-item-2.new.self) c.in_ok-from.from c.in_ok-from.ensures c.in_err-to.field-0.0 c.in_err-to.ensures)
+    (tie_stops_to (name_bytes c.args.link) (name_bytes c.args.from) (name_bytes c.args.to) c.args.room (held_by c.args.self.now) (held_by c.place_link.new.self) s c.in_ok-link.link c.in_ok-link.ensures (held_by c.place_item.new.self) (held_by c.place_item-2.new.self) c.in_ok-from.from c.in_ok-from.ensures c.in_err-to.field-0.0 c.in_err-to.ensures)
 
 pub returns-then-room : goal.returns-then-room
 returns-then-room c =
     λ s.
-    tie_goes (name_bytes c.args.link) (name_bytes c.args.from) (name_bytes c.args.to) c.args.room (held_by c.args.self.now) (held_by c.place-link.new.self) s c.in_ok-link.link c.in_ok-link.ensures (held_by c.place-item.new.self) (held_by c.place-item-2.new.self) c.in_ok-from.from c.in_ok-from.ensures c.in_ok-to.to c.in_ok-to.ensures c.if-room.true
+    tie_goes (name_bytes c.args.link) (name_bytes c.args.from) (name_bytes c.args.to) c.args.room (held_by c.args.self.now) (held_by c.place_link.new.self) s c.in_ok-link.link c.in_ok-link.ensures (held_by c.place_item.new.self) (held_by c.place_item-2.new.self) c.in_ok-from.from c.in_ok-from.ensures c.in_ok-to.to c.in_ok-to.ensures c.if-room.true
 
 pub returns-else-room : goal.returns-else-room
 returns-else-room c =
     λ s.
-    tie_full (name_bytes c.args.link) (name_bytes c.args.from) (name_bytes c.args.to) c.args.room (held_by c.args.self.now) (held_by c.place-link.new.self) s c.in_ok-link.link c.in_ok-link.ensures (held_by c.place-item.new.self) (held_by c.place-item-2.new.self) c.in_ok-from.from c.in_ok-from.ensures c.in_ok-to.to c.in_ok-to.ensures c.if-room.false
+    tie_full (name_bytes c.args.link) (name_bytes c.args.from) (name_bytes c.args.to) c.args.room (held_by c.args.self.now) (held_by c.place_link.new.self) s c.in_ok-link.link c.in_ok-link.ensures (held_by c.place_item.new.self) (held_by c.place_item-2.new.self) c.in_ok-from.from c.in_ok-from.ensures c.in_ok-to.to c.in_ok-to.ensures c.if-room.false
