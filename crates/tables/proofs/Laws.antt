@@ -8,7 +8,7 @@ use Rattle.tables.proofs.Terms.{Done, done}
 use Rattle.tables.proofs.Texts.{texts_long}
 use Rattle.tables.specs.Book.{Book}
 use Rattle.tables.specs.Entry.{Room, Sound, Named, Says, Entry}
-use Rattle.tables.specs.Enters.{Within, InOrder, Enters}
+use Rattle.tables.specs.Enters.{Within, Orderly, Enters}
 use Rattle.tables.specs.Entered.{entered, Is}
 use Rattle.tables.specs.Undo.{lowered}
 use Rattle.tables.specs.Texts.{texts, parts, names_fit, terms_fit, entering}
@@ -21,14 +21,14 @@ not_true : (x : Bool) → (x ≡ true → ⊥) → x ≡ false
 not_true x n = ⊎_elim (λ t. absurd (n t)) (λ f. f) (cases_Bool x)
 
 -- the term t, in a text s, was entered into b with its flags lowered
-module _ (b : Book) (s : List ℕ) (t : Spelled) (read : IsRead s t) (sound : InOrder b) (room : Within b) where
+module _ (b : Book) (s : List ℕ) (t : Spelled) (read : IsRead s t) (sound : Orderly b) (room : Within b) where
   abbrev low : Book
   low = lowered b
 
   abbrev end : Book
   end = (entered t low).book
 
-  low_sound : InOrder low
+  low_sound : Orderly low
   low_sound = record { fair = sound.fair; apart = sound.apart; classes_apart = sound.classes_apart; links_apart = sound.links_apart; classes_legal = sound.classes_legal; links_legal = sound.links_legal; different = sound.different }
 
   names_fit_then : names_fit b t ≡ true → end.names_full ≡ false

@@ -10,7 +10,7 @@ use Rattle.tables.proofs.Numbers.{front_refl, front_long, with_front, with_fits,
 use Rattle.tables.proofs.Spelling.{Names}
 use Rattle.tables.proofs.Texts.{texts_long, texts_named}
 use Rattle.tables.specs.Book.{Book, keep, with_class, with_link, lacks}
-use Rattle.tables.specs.Enters.{Within, InOrder}
+use Rattle.tables.specs.Enters.{Within, Orderly}
 use Rattle.tables.specs.Entry.{Front}
 use Rattle.tables.specs.Texts.{texts}
 use Rattle.tables.specs.Vocabulary.{with_name}
@@ -19,7 +19,7 @@ use Rattle.terms.specs.Kinds.{show_node}
 use Rattle.terms.specs.Nodes.{ordered}
 
 -- more names
-more_names : (b c : Book) → InOrder b → Front b.classes c.classes → Front b.links c.links → c.nodes ≡ b.nodes → Apart c.classes → Apart c.links → Names c.classes → Names c.links → InOrder c × (texts c ≡ texts b)
+more_names : (b c : Book) → Orderly b → Front b.classes c.classes → Front b.links c.links → c.nodes ≡ b.nodes → Apart c.classes → Apart c.links → Names c.classes → Names c.links → Orderly c × (texts c ≡ texts b)
 more_names b c s p q e ac al nc nl =
     let same : texts c ≡ texts b = texts_named b c s.fair p q e in (
       record {
@@ -34,13 +34,13 @@ more_names b c s p q e ac al nc nl =
       same,
     )
 
-pub class_named : (b c : Book) (w : List ℕ) → InOrder b → legal w ≡ true → c.classes ≡ with_name b.classes w → c.links ≡ b.links → c.nodes ≡ b.nodes → InOrder c × (texts c ≡ texts b)
+pub class_named : (b c : Book) (w : List ℕ) → Orderly b → legal w ≡ true → c.classes ≡ with_name b.classes w → c.links ≡ b.links → c.nodes ≡ b.nodes → Orderly c × (texts c ≡ texts b)
 class_named b c w s l p q e =
     more_names b c s (subst (Front b.classes) (sym p) (with_front b.classes w)) (subst (Front b.links) (sym q) (front_refl b.links)) e
     (subst Apart (sym p) (apart_with b.classes w s.classes_apart)) (subst Apart (sym q) s.links_apart)
     (subst Names (sym p) (names_with b.classes w l s.classes_legal)) (subst Names (sym q) s.links_legal)
 
-pub link_named : (b c : Book) (w : List ℕ) → InOrder b → legal w ≡ true → c.links ≡ with_name b.links w → c.classes ≡ b.classes → c.nodes ≡ b.nodes → InOrder c × (texts c ≡ texts b)
+pub link_named : (b c : Book) (w : List ℕ) → Orderly b → legal w ≡ true → c.links ≡ with_name b.links w → c.classes ≡ b.classes → c.nodes ≡ b.nodes → Orderly c × (texts c ≡ texts b)
 link_named b c w s l p q e =
     more_names b c s (subst (Front b.classes) (sym q) (front_refl b.classes)) (subst (Front b.links) (sym p) (with_front b.links w)) e
     (subst Apart (sym q) s.classes_apart) (subst Apart (sym p) (apart_with b.links w s.links_apart))
@@ -78,7 +78,7 @@ keep_none limit xs w l =
     (cases_Bool (ltb (length xs) limit)))
     (cases_Bool (known xs w))
 
-pub class_sound : (b : Book) (w : List ℕ) (i : ℕ) → InOrder b → Within b → legal w ≡ true → added b.classes b.class_limit w ≡ Some i → InOrder (with_class w b) × Within (with_class w b) × ((with_class w b).classes ≡ with_name b.classes w) × (i ≡ number (with_class w b).classes w) × (texts (with_class w b) ≡ texts b)
+pub class_sound : (b : Book) (w : List ℕ) (i : ℕ) → Orderly b → Within b → legal w ≡ true → added b.classes b.class_limit w ≡ Some i → Orderly (with_class w b) × Within (with_class w b) × ((with_class w b).classes ≡ with_name b.classes w) × (i ≡ number (with_class w b).classes w) × (texts (with_class w b) ≡ texts b)
 class_sound b w i s r l e =
     let told = added_some b.class_limit b.classes w i (sym e) in
     let is : (with_class w b).classes ≡ with_name b.classes w = keep_is b.class_limit b.classes w told.0 in
@@ -90,7 +90,7 @@ class_sound b w i s r l e =
       same,
     )
 
-pub link_sound : (b : Book) (w : List ℕ) (i : ℕ) → InOrder b → Within b → legal w ≡ true → added b.links b.link_limit w ≡ Some i → InOrder (with_link w b) × Within (with_link w b) × ((with_link w b).links ≡ with_name b.links w) × (i ≡ number (with_link w b).links w) × (texts (with_link w b) ≡ texts b)
+pub link_sound : (b : Book) (w : List ℕ) (i : ℕ) → Orderly b → Within b → legal w ≡ true → added b.links b.link_limit w ≡ Some i → Orderly (with_link w b) × Within (with_link w b) × ((with_link w b).links ≡ with_name b.links w) × (i ≡ number (with_link w b).links w) × (texts (with_link w b) ≡ texts b)
 link_sound b w i s r l e =
     let told = added_some b.link_limit b.links w i (sym e) in
     let is : (with_link w b).links ≡ with_name b.links w = keep_is b.link_limit b.links w told.0 in
@@ -110,7 +110,7 @@ pub link_none : (b : Book) (w : List ℕ) → added b.links b.link_limit w ≡ N
 link_none b w e = let k = keep_none b.link_limit b.links w (added_none b.link_limit b.links w (sym e)).0 in λ i. record { classes = b.classes; class_limit = b.class_limit; links = k i; link_limit = b.link_limit; nodes = b.nodes; node_limit = b.node_limit; names_full = b.names_full; terms_full = b.terms_full }
 
 -- empty tables
-pub empty_sound : (b : Book) → b.classes ≡ [] → b.links ≡ [] → b.nodes ≡ [] → InOrder b × Within b
+pub empty_sound : (b : Book) → b.classes ≡ [] → b.links ≡ [] → b.nodes ≡ [] → Orderly b × Within b
 empty_sound b p q e =
     let c = ap length p in
     let l = ap length q in

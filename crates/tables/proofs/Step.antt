@@ -10,7 +10,7 @@ use Rattle.tables.proofs.Numbers.{front_refl, front_long, number_at, number_belo
 use Rattle.tables.proofs.Shown.{same_node}
 use Rattle.tables.proofs.Texts.{texts_long, noded_new, lacks_same, texts_noded}
 use Rattle.tables.specs.Book.{Book, lacks, noded, node_of}
-use Rattle.tables.specs.Enters.{InOrder}
+use Rattle.tables.specs.Enters.{Orderly}
 use Rattle.tables.specs.Entry.{Front}
 use Rattle.tables.specs.Texts.{texts}
 use Rattle.tables.specs.Vocabulary.{with_name, with_names, numbered}
@@ -27,7 +27,7 @@ tree_stays ns ms i (zs, e) l = ap (λ x. tree x i) e ∙ tree_kept ns zs i l
 
 -- one node
 
-module _ (b : Book) (n : Node) (s : InOrder b) (fits : sound (length b.classes) (length b.links) (length b.nodes) n ≡ true) (room : lacks b.node_limit (map show_node b.nodes) (show_node n) ≡ false) where
+module _ (b : Book) (n : Node) (s : Orderly b) (fits : sound (length b.classes) (length b.links) (length b.nodes) n ≡ true) (room : lacks b.node_limit (map show_node b.nodes) (show_node n) ≡ false) where
   abbrev shown : List (List ℕ)
   shown = map show_node b.nodes
 
@@ -95,7 +95,7 @@ way_then b c d ps qs e l was (inr f) = inr f
 
 -- the book c may take the node n, which stands for t
 pub record Ready (c : Book) (n : Node) (t : Spelled) : Type 0 where
-  pub base : InOrder c
+  pub base : Orderly c
   pub room : length c.nodes ≤ c.node_limit
   pub fits : sound (length c.classes) (length c.links) (length c.nodes) n ≡ true
   pub known : Known c.classes c.links t
@@ -104,7 +104,7 @@ pub record Ready (c : Book) (n : Node) (t : Spelled) : Type 0 where
 -- it took it
 pub record Step (c d : Book) (i : ℕ) (t : Spelled) : Type 0 where
   pub nodes : Front c.nodes d.nodes
-  pub base : InOrder d
+  pub base : Orderly d
   pub room : length d.nodes ≤ d.node_limit
   pub below : i < length d.nodes
   pub reads : tree d.nodes i ≡ numbered c.classes c.links t

@@ -10,7 +10,7 @@ use Rattle.tables.proofs.Numbers.{front_trans, front_refl, front_long, front_num
 use Rattle.tables.proofs.Spelling.{is_legal}
 use Rattle.tables.proofs.Step.{Ready, Way, way_first, way_then, step, tree_stays}
 use Rattle.tables.specs.Book.{Book, labelled, label_of, noded}
-use Rattle.tables.specs.Enters.{InOrder}
+use Rattle.tables.specs.Enters.{Orderly}
 use Rattle.tables.specs.Entry.{Front}
 use Rattle.tables.specs.Entered.{Made, made, entered}
 use Rattle.tables.specs.Texts.{texts, parts}
@@ -43,7 +43,7 @@ pub record Done (b : Book) (t : Spelled) (m : Made) : Type 0 where
   pub classes : Front b.classes m.book.classes
   pub links : Front b.links m.book.links
   pub nodes : Front b.nodes m.book.nodes
-  pub base : InOrder m.book
+  pub base : Orderly m.book
   pub room : length m.book.nodes ≤ m.book.node_limit
   pub below : m.number < length m.book.nodes
   pub reads : tree m.book.nodes m.number ≡ numbered m.book.classes m.book.links t
@@ -121,13 +121,13 @@ link_known b d r nf q =
     (label ∙ sym later, (omega arith))
 
 -- what a link's name leaves
-link_label : (b : Book) (r : List ℕ) → InOrder b → Valid (exists r top) → (labelled OfLink r b).names_full ≡ false → InOrder (labelled OfLink r b) × (texts (labelled OfLink r b) ≡ texts b) × Front b.links (labelled OfLink r b).links
+link_label : (b : Book) (r : List ℕ) → Orderly b → Valid (exists r top) → (labelled OfLink r b).names_full ≡ false → Orderly (labelled OfLink r b) × (texts (labelled OfLink r b) ≡ texts b) × Front b.links (labelled OfLink r b).links
 link_label b r s (l, _) nf =
     let links = keep_is b.link_limit b.links r (or_parts b.names_full _ nf).1 in
     let (p, q) = link_named b (labelled OfLink r b) r s (is_legal r l) links refl refl in
     (p, q, subst (Front b.links) (sym links) (with_front b.links r))
 
-class_done : (b : Book) (w : List ℕ) → Valid (class w) → InOrder b → length b.nodes ≤ b.node_limit → (labelled OfClass w b).names_full ≡ false → Way b (w ∷ []) (noded (Class (label_of OfClass w b)) (labelled OfClass w b)) → Done b (class w) (made (Class (label_of OfClass w b)) (labelled OfClass w b))
+class_done : (b : Book) (w : List ℕ) → Valid (class w) → Orderly b → length b.nodes ≤ b.node_limit → (labelled OfClass w b).names_full ≡ false → Way b (w ∷ []) (noded (Class (label_of OfClass w b)) (labelled OfClass w b)) → Done b (class w) (made (Class (label_of OfClass w b)) (labelled OfClass w b))
 class_done b w v s r nf way =
     let c : Book = labelled OfClass w b in
     let free-name = (or_parts b.names_full _ nf).1 in
@@ -141,7 +141,7 @@ class_done b w v s r nf way =
     (record { base = sc; room = r; fits = lt-ltb (label_of OfClass w b) (length c.classes) (omega arith); known = here; reads = ap class label })
     (way_then b c (noded n c) [] (w ∷ []) same refl (λ f. f) way)
 
-pub done : (t : Spelled) (b : Book) → Valid t → InOrder b → length b.nodes ≤ b.node_limit → (entered t b).book.names_full ≡ false → Way b (parts t) (entered t b).book → Done b t (entered t b)
+pub done : (t : Spelled) (b : Book) → Valid t → Orderly b → length b.nodes ≤ b.node_limit → (entered t b).book.names_full ≡ false → Way b (parts t) (entered t b).book → Done b t (entered t b)
 unfolding entered
 done top b v s r nf way = done_node b b Top top [] (front_refl b.classes) (front_refl b.links) (front_refl b.nodes) refl refl (record { base = s; room = r; fits = refl; known = tt; reads = refl }) way
 done bottom b v s r nf way = done_node b b Bottom bottom [] (front_refl b.classes) (front_refl b.links) (front_refl b.nodes) refl refl (record { base = s; room = r; fits = refl; known = tt; reads = refl }) way

@@ -8,7 +8,7 @@ use Rattle.tables.proofs.Numbers.{number_at}
 use Rattle.tables.proofs.Shown.{same_node}
 use Rattle.tables.proofs.Spelling.{spot, numbered_spelled, spelled_valid, written_same}
 use Rattle.tables.specs.Book.{Book, lacks, noded}
-use Rattle.tables.specs.Enters.{InOrder}
+use Rattle.tables.specs.Enters.{Orderly}
 use Rattle.tables.specs.Entry.{Front}
 use Rattle.tables.specs.Texts.{texts}
 use Rattle.tables.specs.Vocabulary.{with_name, numbered}
@@ -72,7 +72,7 @@ module _ (c : Book) where
   again (may i t) = May i (place t)
   again (must i t) = Must i (place t)
 
-  module _ (s : InOrder c) where
+  module _ (s : Orderly c) where
     place_at : (a : ℕ) → ltb a (length c.nodes) ≡ true → place (get_or (trees c.nodes) a bottom) ≡ a
     place_at a t =
         let l = ltb-true a (length c.nodes) t in

@@ -17,7 +17,7 @@ pub record Within (b : Book) : Type 0 where
   pub nodes : length b.nodes ≤ b.node_limit
 
 -- Names are names, each once; the nodes are in order, parts before wholes, each once, and no two stand for one term.
-pub record InOrder (b : Book) : Type 0 where
+pub record Orderly (b : Book) : Type 0 where
   pub fair : ordered (length b.classes) (length b.links) 0 b.nodes ≡ true
   pub apart : Apart (map show_node b.nodes)
   pub classes_apart : Apart b.classes
@@ -34,7 +34,7 @@ pub record Enters (b : Book) (t : Spelled) (i : ℕ) (c : Book) : Type 0 where
   pub terms : texts c ≡ with_names (texts b) (parts t)
   pub nodes : Front b.nodes c.nodes
   pub limits : (c.class_limit ≡ b.class_limit) × (c.link_limit ≡ b.link_limit) × (c.node_limit ≡ b.node_limit)
-  pub sound : InOrder c
+  pub sound : Orderly c
   pub room : Within c
   pub below : i < length c.nodes
   pub reads : tree c.nodes i ≡ numbered c.classes c.links t

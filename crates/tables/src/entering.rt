@@ -4,7 +4,7 @@ ghost use Rattle.tables.specs.Entry.{Entry};
 ghost use Rattle.tables.specs.Undo.{lowered, cut, Refuses};
 ghost use Rattle.terms.specs.Term.{Spelled};
 ghost use Rattle.terms.specs.Told.{IsRead, IsRefused};
-ghost use Rattle.tables.specs.Enters.{Within, InOrder, Enters};
+ghost use Rattle.tables.specs.Enters.{Within, Orderly, Enters};
 ghost use Rattle.tables.specs.Entered.{entered, Is};
 ghost use Rattle.tables.specs.Texts.{entering};
 
@@ -59,7 +59,7 @@ impl Tables {
     // they were.
     pub fn enter(&mut self, text: &[u8]) -> Result<usize, Refusal>
         ensures steps { MatchResult result (λ i. (t : Spelled) × IsRead text.now t × Entry t (lowered (book_of self.old)) i (book_of self.new) × (self.new.names_full ≡ false) × (self.new.terms_full ≡ false)) (λ e. Refuses text.now (lowered (book_of self.old)) e × (book_of self.new ≡ book_of self.old)) }
-        ensures law { InOrder (book_of self.old) → Within (book_of self.old) → MatchResult result (λ i. (t : Spelled) × IsRead text.now t × (entering (book_of self.old) text.now ≡ Ok t) × Enters (book_of self.old) t i (book_of self.new)) (λ e. entering (book_of self.old) text.now ≡ Err e) }
+        ensures law { Orderly (book_of self.old) → Within (book_of self.old) → MatchResult result (λ i. (t : Spelled) × IsRead text.now t × (entering (book_of self.old) text.now ≡ Ok t) × Enters (book_of self.old) t i (book_of self.new)) (λ e. entering (book_of self.old) text.now ≡ Err e) }
         ensures kept { IfErr result (λ e. book_of self.new ≡ book_of self.old) }
     {
         check(text)?;

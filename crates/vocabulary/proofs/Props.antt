@@ -2,10 +2,10 @@
 use mathlib.Core.Logic.{∥∥₁_elim}
 use denote.Struct.Props.{props}
 use Rattle.tables.specs.Book.{Book}
-use Rattle.tables.specs.Enters.{InOrder, Within}
+use Rattle.tables.specs.Enters.{Orderly, Within}
 use Rattle.vocabulary.specs.Held.{Held, InOrder}
 
-sound_prop : (b : Book) → IsProp (InOrder b)
+sound_prop : (b : Book) → IsProp (Orderly b)
 sound_prop b x y = λ i. record {
   fair = (let p : IsProp (_) = hlevel props in p) x.fair y.fair i;
   apart = (let p : IsProp (_) = hlevel props in p) x.apart y.apart i;

@@ -3,7 +3,7 @@ use Rattle.std.specs.Prelude.{◌≡◌, ℕ, ◌≤◌, List, map, length, Ok, 
 use Rattle.distinct.specs.Numbering.{Apart}
 use Rattle.names.specs.declared.refusals.Fault.{Fault}
 use Rattle.tables.specs.Book.{Book, book_of}
-use Rattle.tables.specs.Enters.{InOrder, Within}
+use Rattle.tables.specs.Enters.{Orderly, Within}
 use Rattle.tables.specs.Entry.{Front}
 use Rattle.tables.specs.Texts.{texts}
 use Rattle.terms.specs.Nodes.{name_bytes}
@@ -23,7 +23,7 @@ lexicon h = record { classes = h.book.classes; links = h.book.links; items = h.i
 
 -- Parts before wholes, no repeats, all numbers in range, and the limits that every sheet has.
 pub record InOrder (h : Held) : Type 0 where
-  pub sound : InOrder h.book
+  pub sound : Orderly h.book
   pub room : Within h.book
   pub items : Apart h.items
   pub few : length h.items ≤ 32

@@ -15,7 +15,7 @@ returns-then-alike c =
     let t : finder_raises (finder_env s) v 0 ≡ true =
     elim c.then-alike.branch [
       | then-alike-via-then-alike x ↦ or_left (bytes_eq v w) _ (alike_true c.alike.result v w c.alike.ensures x.if-alike.true)
-      | then-alike-via-else-alike+then-refers x ↦ or_right (bytes_eq v w) _ (refers_told (finder_env s) v x.number_of_lem.ensures x.number_of-else-alike.ensures (sym x.refers.ensures ∙ x.if-refers.true))
+      | then-alike-via-else-alike+then-refers x ↦ or_right (bytes_eq v w) _ (refers_told (finder_env s) v x.number_of.ensures x.number_of-else-alike.ensures (sym x.refers.ensures ∙ x.if-refers.true))
     ] in
     finder_hits s c.args.sort v c.in-OfClass.is t
 

@@ -5,4 +5,4 @@ use Rattle.glossary.proofs.table.Glossary.record.Goals as goal
 
 pub returns : goal.returns
 returns c =
-    ((refl, λ w. same_table (with_item c.args.self.now.records c.args.c w) _ _), c.index-mut.ensures.value)
+    ((refl, λ w. same_table (with_item c.args.self.now.records c.args.c w) _ _), record { follows = tt; value = c.index_mut.ensures.value })

@@ -7,7 +7,7 @@ use Rattle.vocabulary.proofs.vocabularies.Vocabulary.gloss.Goals as goal
 pub invariant_of-self : goal.invariant_of-self
 invariant_of-self c =
     let v = c.args.self.now in
-    (∣ entered_order _ c.gloss.result GlossAt (held_by v.words) (held_by c.gloss.new.self) (in_order (held_by v.words) v.order) c.gloss.ensures ∣₁, tt)
+    record { order = ∣ entered_order _ c.gloss.result GlossAt (held_by v.words) (held_by c.gloss.new.self) (in_order (held_by v.words) v.order) c.gloss.ensures ∣₁ }
 
 pub returns : goal.returns
 returns c = let v = c.args.self.now in c.gloss.ensures (in_order (held_by v.words) v.order)

@@ -15,7 +15,7 @@ returns-in_err-placed c =
 pub invariant_of-result : goal.invariant_of-result
 invariant_of-result c =
     let v = c.args.self.now in
-    (∣ (query_placed (held_by v.words) (held_by c.in_ok-words.words) (held_by c.statement.new.self) (in_order (held_by v.words) v.order) c.in_ok-words.ensures c.args.item.now c.args.term.now c.in_ok-placed.placed c.in_ok-placed.ensures).3 ∣₁, tt)
+    record { order = ∣ (query_placed (held_by v.words) (held_by c.in_ok-words.words) (held_by c.statement.new.self) (in_order (held_by v.words) v.order) c.in_ok-words.ensures c.args.item.now c.args.term.now c.in_ok-placed.placed c.in_ok-placed.ensures).3 ∣₁ }
 
 pub returns : goal.returns
 returns c =
