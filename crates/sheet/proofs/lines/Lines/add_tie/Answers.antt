@@ -14,4 +14,4 @@ invariant_of-self c =
     let long = ap length c.push_reserved.ensures.items ∙ length_push ls line in
     let all = c.args.self.now.rest in
     let p = c.requires in
-    (omega arith, (c.args.self.now.few, (omega arith, (omega (arith, c.push_reserved.ensures.capacity, c.args.self.now.room), tt))))
+    record { counted = omega arith; few = c.args.self.now.few; rest = omega arith; room = omega (arith, c.push_reserved.ensures.capacity, c.args.self.now.room) }

@@ -5,7 +5,7 @@ use Rattle.sheet.specs.Store.{store_of}
 use Rattle.sheet.proofs.sheets.Sheet.gloss.Goals as goal
 
 pub invariant_of-self : goal.invariant_of-self
-invariant_of-self c = (kept_order _ c.gloss.result (store_of c.args.self.now.page) (store_of c.gloss.new.self) c.args.self.now.fair c.gloss.ensures, tt)
+invariant_of-self c = record { fair = kept_order _ c.gloss.result (store_of c.args.self.now.page) (store_of c.gloss.new.self) c.args.self.now.fair c.gloss.ensures }
 
 pub returns : goal.returns
 returns c =

@@ -19,7 +19,7 @@ returns-in_err-new-3 c = record { empty = search rules; histories = (faithful, r
 pub invariant_of-result : goal.invariant_of-result
 invariant_of-result c =
     let s = store_of (record { vocabulary = c.in_ok-new.field-0; glossary = c.in_ok-new-2.field-0; lines = c.in_ok-new-3.field-0 }) in
-    (∣ (fresh s c.in_ok-new.ensures (in_order s.held c.in_ok-new.field-0.order) c.in_ok-new-2.ensures.0 c.in_ok-new-2.ensures.1 c.in_ok-new-3.ensures).0 ∣₁, tt)
+    record { fair = ∣ (fresh s c.in_ok-new.ensures (in_order s.held c.in_ok-new.field-0.order) c.in_ok-new-2.ensures.0 c.in_ok-new-2.ensures.1 c.in_ok-new-3.ensures).0 ∣₁ }
 
 pub returns : goal.returns
 returns c =

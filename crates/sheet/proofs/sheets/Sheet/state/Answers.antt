@@ -3,7 +3,7 @@ use Rattle.sheet.specs.Store.{store_of}
 use Rattle.sheet.proofs.sheets.Sheet.state.Goals as goal
 
 pub invariant_of-self : goal.invariant_of-self
-invariant_of-self c = (kept_order _ c.state.result (store_of c.args.self.now.page) (store_of c.state.new.self) c.args.self.now.fair c.state.ensures, tt)
+invariant_of-self c = record { fair = kept_order _ c.state.result (store_of c.args.self.now.page) (store_of c.state.new.self) c.args.self.now.fair c.state.ensures }
 
 pub returns : goal.returns
 returns c = record { told = kept_told _ c.state.result (store_of c.args.self.now.page) (store_of c.state.new.self) c.args.self.now.fair c.state.ensures }
