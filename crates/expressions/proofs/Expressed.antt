@@ -1,10 +1,10 @@
 -- An expression holds the term that was read, and is written with that term's bytes. Assumes nothing.
-use Rattle.std.proofs.Common.{◌≡◌, ℕ, zero, suc, ◌+◌, ◌-◌, ◌<◌, ◌≤◌, true, false, List, [], ◌∷◌, ◌++◌, map, length, get_or, take, drop, vec_items, sym, refl, ap, ◌∙◌, subst, zero-add, arith}
+use Rattle.std.proofs.Common.{◌≡◌, ℕ, zero, suc, ◌-◌, ◌<◌, ◌≤◌, true, false, List, [], ◌∷◌, ◌++◌, map, length, get_or, drop, vec_items, sym, refl, ap, ◌∙◌, subst, zero-add, arith}
 use Rattle.std.proofs.lemmas.List.{length-map}
 use Rattle.terms.specs.Built.{Built}
 use Rattle.expressions.specs.Draft.{Labels, Makes, contents}
 use Rattle.expressions.specs.Expression.{term_of}
-use Rattle.names.specs.Name.{Legal, legal}
+use Rattle.names.specs.Name.{Legal}
 use Rattle.terms.specs.Nodes.{name_bytes, ordered, spelled, tree, term_at}
 use Rattle.expressions.specs.Spelling.{over}
 use Rattle.terms.specs.Term.{Term, Spelled, top, bottom, class, neg, and, or, exists, forall, may, must, written, depth, Valid, Readable}
@@ -14,7 +14,7 @@ use Rattle.expressions.specs.declared.kept.Expression.{Expression}
 use Rattle.names.specs.declared.named.Name.{Name}
 use Rattle.terms.specs.declared.nodes.Node.{Node}
 use Rattle.terms.specs.declared.nodes.Sort.{Sort}
-use Rattle.expressions.proofs.Drafted.{Fair, Says, says}
+use Rattle.expressions.proofs.Drafted.{Fair, says}
 use Rattle.names.proofs.Flaws.{is_legal, legal_when}
 use Rattle.terms.proofs.Language.{reading_complete}
 use Rattle.terms.proofs.Trees.{InRange, tree_range}

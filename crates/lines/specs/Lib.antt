@@ -1,3 +1,4 @@
 pub mod Pieces
 pub mod Stages
 pub mod FaultLine
+pub mod Widths

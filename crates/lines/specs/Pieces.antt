@@ -1,5 +1,5 @@
 -- A text cut at each byte b. Assumes nothing.
-use Rattle.std.specs.Prelude.{◌≡◌, ℕ, ◌<◌, cond, List, [], ◌∷◌, ◌++◌, length, ◌==◌, ◌≢◌, slice_index}
+use Rattle.std.specs.Prelude.{ℕ, ◌<◌, cond, List, [], ◌∷◌, ◌++◌, length, ◌==◌, ◌≢◌, slice_index}
 
 -- one byte more in front of the first piece
 abbrev pub onto : ℕ → List (List ℕ) → List (List ℕ)

@@ -2,7 +2,7 @@ ghost use Rattle.std.specs.Prelude.{◌≡◌, ℕ, ◌<◌, [], slice_index_or}
 ghost use Rattle.lines.specs.Pieces.{pieces};
 ghost use Rattle.lines.specs.Stages.{sign, width, alone, letter_of};
 ghost use Rattle.lines.specs.declared.letters.Letter.TheVariants.{Heading, Gloss, Statement, Tie, Question};
-ghost use Rattle.std.proofs.Common.{rules};
+ghost use Rattle.lines.specs.Widths.{some_fields};
 
 use crate::fields::first_field;
 use crate::letters::Letter;
@@ -45,7 +45,7 @@ impl LineKind for HeadingLine {
 
     ghost fields = { width Heading };
 
-    ghost some = { Prim.search rules };
+    ghost some = { some_fields Heading };
 
     fn opener() -> u8 {
         Self::LETTER
@@ -65,7 +65,7 @@ impl LineKind for GlossLine {
 
     ghost fields = { width Gloss };
 
-    ghost some = { Prim.search rules };
+    ghost some = { some_fields Gloss };
 
     fn opener() -> u8 {
         Self::LETTER
@@ -85,7 +85,7 @@ impl LineKind for StatementLine {
 
     ghost fields = { width Statement };
 
-    ghost some = { Prim.search rules };
+    ghost some = { some_fields Statement };
 
     fn opener() -> u8 {
         Self::LETTER
@@ -105,7 +105,7 @@ impl LineKind for TieLine {
 
     ghost fields = { width Tie };
 
-    ghost some = { Prim.search rules };
+    ghost some = { some_fields Tie };
 
     fn opener() -> u8 {
         Self::LETTER
@@ -125,7 +125,7 @@ impl LineKind for QuestionLine {
 
     ghost fields = { width Question };
 
-    ghost some = { Prim.search rules };
+    ghost some = { some_fields Question };
 
     fn opener() -> u8 {
         Self::LETTER

@@ -1,13 +1,18 @@
 -- What a builder that keeps a book makes of a term is what entering it makes. Assumes nothing.
 use Rattle.std.proofs.Common.{◌≡◌, ℕ, List, refl, ap, ◌∙◌}
 use Rattle.tables.specs.Book.{Book, Labels, Makes, labelled, label_of, noded, node_of}
-use Rattle.tables.specs.Entered.{made, entered, Is}
+use Rattle.tables.specs.Entered.{Made, made, entered}
 use Rattle.terms.specs.Built.{Built}
 use Rattle.terms.specs.Term.{Spelled, top, bottom, class, neg, and, or, exists, forall, may, must}
 use Rattle.terms.specs.declared.nodes.Node.{Node}
 use Rattle.terms.specs.declared.nodes.Node.TheVariants.{Top, Bottom, Class, Not, And, Or, Exists, Forall, May, Must}
 use Rattle.terms.specs.declared.nodes.Sort.{Sort}
 use Rattle.terms.specs.declared.nodes.Sort.TheVariants.{OfClass, OfLink}
+
+-- the book c and the number i are what those steps make
+pub record Is (m : Made) (c : Book) (i : ℕ) : Type 0 where
+  pub book : c ≡ m.book
+  pub number : i ≡ m.number
 
 -- a node over parts that are numbered
 is_made : (n n' : Node) (b b' c : Book) (i : ℕ) → n ≡ n' → b ≡ b' → Makes b n i c → Is (made n' b') c i

@@ -2,6 +2,7 @@
 use Rattle.std.proofs.Common.{◌≡◌, ℕ, ◌≤◌, Bool, true, false, cond, leb, ◌⊎◌, List, length, Ok, Err, sym, refl, ap, ◌∙◌, subst, inl, inr, ⊎_elim, arith}
 use Rattle.std.proofs.lemmas.Bool.{and_from, and_parts, both_ways, cases_Bool, cond-true, cond-false, le-leb, leb-true}
 use Rattle.names.specs.declared.refusals.Refusal.TheVariants.{NamesFull, TermsFull}
+use Rattle.tables.proofs.Built.{Is}
 use Rattle.tables.proofs.Names.{entered_named, names_fit_lem, limits}
 use Rattle.tables.proofs.Says.{says}
 use Rattle.tables.proofs.Terms.{Done, done}
@@ -9,7 +10,7 @@ use Rattle.tables.proofs.Texts.{texts_long}
 use Rattle.tables.specs.Book.{Book}
 use Rattle.tables.specs.Entry.{Room, Sound, Named, Says, Entry}
 use Rattle.tables.specs.Enters.{Within, Orderly, Enters}
-use Rattle.tables.specs.Entered.{entered, Is}
+use Rattle.tables.specs.Entered.{entered}
 use Rattle.tables.specs.Undo.{lowered}
 use Rattle.tables.specs.Texts.{texts, parts, names_fit, terms_fit, entering}
 use Rattle.tables.specs.Vocabulary.{with_names, class_names, link_names, numbered}

@@ -1,5 +1,5 @@
 -- The tables after a term was entered, and the term's number. Assumes nothing.
-use Rattle.std.specs.Prelude.{◌≡◌, ℕ}
+use Rattle.std.specs.Prelude.{ℕ}
 use Rattle.tables.specs.Book.{Book, labelled, label_of, noded, node_of}
 use Rattle.terms.specs.Term.{Spelled, top, bottom, class, neg, and, or, exists, forall, may, must}
 use Rattle.terms.specs.declared.nodes.Node.{Node}
@@ -25,8 +25,3 @@ entered (exists r t) b = let p = entered t (labelled OfLink r b) in made (Exists
 entered (forall r t) b = let p = entered t (labelled OfLink r b) in made (Forall (label_of OfLink r b) p.number) p.book
 entered (may i t) b = let p = entered t b in made (May i p.number) p.book
 entered (must i t) b = let p = entered t b in made (Must i p.number) p.book
-
--- the book c and the number i are what those steps make
-pub record Is (m : Made) (c : Book) (i : ℕ) : Type 0 where
-  pub book : c ≡ m.book
-  pub number : i ≡ m.number

@@ -5,7 +5,6 @@ ghost use Rattle.tables.specs.Undo.{lowered, cut, Refuses};
 ghost use Rattle.terms.specs.Term.{Spelled};
 ghost use Rattle.terms.specs.Told.{IsRead, IsRefused};
 ghost use Rattle.tables.specs.Enters.{Within, Orderly, Enters};
-ghost use Rattle.tables.specs.Entered.{entered, Is};
 ghost use Rattle.tables.specs.Texts.{entering};
 
 use crate::tables::{Mark, Tables};
@@ -15,7 +14,7 @@ use terms::{check, read};
 impl Tables {
     // Reads a text as a term and enters its names and parts; the flags tell whether one that was new found no place.
     fn build(&mut self, text: &[u8]) -> Result<usize, Refusal>
-        ensures { MatchResult result (λ i. (t : Spelled) × IsRead text.now t × Is (entered t (book_of self.old)) (book_of self.new) i) (λ e. IsRefused text.now e) }
+        ensures { MatchResult result (λ i. (t : Spelled) × IsRead text.now t × Entry t (book_of self.old) i (book_of self.new)) (λ e. IsRefused text.now e) }
     {
         let number = read(self, text)?;
         Ok(number)

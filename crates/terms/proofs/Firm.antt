@@ -1,19 +1,19 @@
 -- A fault of a name, of depth, or of a word left over stands whatever follows its place. Assumes nothing.
-use Rattle.std.proofs.Common.{◌≡◌, ℕ, zero, suc, ◌+◌, ◌-◌, ◌<◌, ◌≤◌, Bool, true, false, cond, eqb, ◌⊎◌, List, [], ◌∷◌, ◌++◌, length, take, drop, Some, None, Ok, Err, Option, Result, sym, refl, ap, ◌∙◌, subst, inl, inr, ⊎_elim, append_assoc, arith, take-append-drop}
+use Rattle.std.proofs.Common.{◌≡◌, ℕ, zero, suc, ◌+◌, ◌-◌, ◌<◌, ◌≤◌, false, eqb, ◌⊎◌, List, [], ◌∷◌, ◌++◌, length, take, drop, Some, None, Ok, Err, Option, Result, sym, refl, ap, ◌∙◌, subst, inl, inr, ⊎_elim, append_assoc, arith, take-append-drop}
 use Rattle.std.proofs.lemmas.List.{length-append, length-drop, length-take-le}
 use Rattle.std.proofs.lemmas.Bool.{cond-true, cond-false, cases_Bool, eqb-true}
 use Rattle.names.specs.Name.{fits, flaw}
 use Rattle.names.specs.Refusal.{place_of}
 use Rattle.names.specs.declared.refusals.Refusal.{Refusal}
-use Rattle.names.specs.declared.refusals.Refusal.TheVariants.{BadName, BadOperator, EndsEarly, LeftOver, StraySpace, TooDeep, ShortBuffer, NoMemory}
+use Rattle.names.specs.declared.refusals.Refusal.TheVariants.{BadName, LeftOver, StraySpace, TooDeep}
 use Rattle.terms.specs.Forms.{joins, quantifies, modalizes}
-use Rattle.terms.specs.Parse.{after, Parsed, gap, named, name_at, only_class, part, one_part, two_parts, linked, operated, parts, parse, place, ended, begun, reading}
-use Rattle.terms.specs.Term.{Spelled, top, bottom, class, neg}
+use Rattle.terms.specs.Parse.{after, Parsed, gap, named, name_at, only_class, part, one_part, two_parts, linked, operated, parts, parse, place, ended, reading}
+use Rattle.terms.specs.Term.{Spelled, class, neg}
 use Rattle.terms.specs.Told.{Firm}
 use Rattle.terms.specs.Word.{Word, operator, reader, name, Sign, bare, modal, letter, sign, completed, word_length, first_word, after_word, meant}
 use Rattle.terms.specs.declared.words.Operator.{Operator}
 use Rattle.terms.specs.declared.words.Operator.TheVariants.{Top, Bottom, Not, Join as Joining, Quantifier as Quantifying}
-use Rattle.terms.proofs.Language.{Ended, Solid, solid_length, first_is, after_is, after_ended, word_whole}
+use Rattle.terms.proofs.Language.{Solid, first_is, after_is}
 
 -- words across the seam between y and what follows it
 

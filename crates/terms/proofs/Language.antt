@@ -1,11 +1,11 @@
 -- What is read is what is written: soundness and completeness of reading. Assumes nothing.
-use Rattle.std.proofs.Common.{◌≡◌, ℕ, zero, suc, ◌+◌, ◌-◌, ◌<◌, ◌≤◌, max, Bool, true, false, cond, ◌||◌, eqb, ◌⊎◌, List, [], ◌∷◌, ◌++◌, length, get_or, take, drop, Some, None, Ok, Err, Option, Result, sym, refl, ap, ◌∙◌, subst, inl, inr, ⊎_elim, append_assoc, arith, take-append-drop}
+use Rattle.std.proofs.Common.{◌≡◌, ℕ, zero, suc, ◌+◌, ◌<◌, ◌≤◌, max, true, false, eqb, List, [], ◌∷◌, ◌++◌, length, get_or, take, drop, Some, None, Ok, Err, Option, Result, sym, refl, ap, ◌∙◌, subst, ⊎_elim, append_assoc, arith, take-append-drop}
 use Rattle.std.proofs.lemmas.List.{append-nil, take_at, drop_at}
-use Rattle.std.proofs.lemmas.Bool.{cond-true, cond-false, cases_Bool, eqb-true, ne_eqb, eq-eqb, both_ways}
+use Rattle.std.proofs.lemmas.Bool.{cond-true, cond-false, cases_Bool, eqb-true, ne_eqb, eq-eqb}
 use Rattle.std.proofs.lemmas.Bool.Decides.{nat_tests}
 use Rattle.terms.specs.Forms.{joins, quantifies, modalizes}
-use Rattle.names.specs.Name.{opens, follows, flaw, Legal}
-use Rattle.terms.specs.Parse.{after, Parsed, gap, named, name_at, only_class, part, one_part, two_parts, linked, operated, parts, parse, place, ended, begun, reading}
+use Rattle.names.specs.Name.{follows, flaw, Legal}
+use Rattle.terms.specs.Parse.{after, gap, named, name_at, only_class, part, one_part, two_parts, linked, operated, parts, parse, place, ended, begun, reading}
 use Rattle.terms.specs.Term.{Spelled, top, bottom, class, neg, and, or, exists, forall, may, must, written, depth, Valid, Readable}
 use Rattle.terms.specs.Word.{Word, operator, reader, name, word_length, first_word, after_word, meant}
 use Rattle.names.specs.declared.refusals.Refusal.{Refusal}
@@ -18,7 +18,7 @@ use Rattle.terms.specs.declared.words.Operator.TheVariants.{Top, Bottom, Not, Jo
 use Rattle.terms.specs.declared.words.Quantifier.{Quantifier}
 use Rattle.terms.specs.declared.words.Quantifier.TheVariants.{Exists, Forall}
 use Rattle.names.proofs.Flaws.{legal_when, when_legal}
-use Rattle.terms.proofs.Symbols.{symbol, modal_symbol, Spells, spells, means_operator, means_reader, means_name}
+use Rattle.terms.proofs.Symbols.{symbol, modal_symbol, spells, means_operator, means_reader, means_name}
 
 -- a text at the end of a word: nothing, or a space
 abbrev pub Ended : List ℕ → Type 0

@@ -1,5 +1,5 @@
 -- Reading a term, step by step, as the code goes. Assumes nothing.
-use Rattle.std.proofs.Common.{◌≡◌, ℕ, zero, suc, ◌-◌, ◌≤◌, List, Some, None, Ok, Err, Option, Result, sym, refl, ap, ◌∙◌, subst, arith}
+use Rattle.std.proofs.Common.{◌≡◌, ℕ, suc, ◌-◌, List, Some, None, Ok, Err, Option, Result, sym, ap, ◌∙◌, subst, arith}
 use Rattle.terms.specs.Built.{Built}
 use Rattle.terms.specs.Forms.{joins, quantifies, modalizes, join_node, quantifier_node, modal_node}
 use Rattle.names.specs.Name.{flaw}
@@ -9,7 +9,7 @@ use Rattle.terms.specs.Term.{Spelled, class}
 use Rattle.terms.specs.Word.{Word, operator, reader, name, first_word, after_word, meant}
 use Rattle.terms.specs.declared.nodes.Node.{Node}
 use Rattle.terms.specs.declared.nodes.Sort.{Sort}
-use Rattle.terms.specs.declared.nodes.Sort.TheVariants.{OfClass, OfLink}
+use Rattle.terms.specs.declared.nodes.Sort.TheVariants.{OfLink}
 use Rattle.terms.specs.declared.parts.Part.{Part}
 use Rattle.names.specs.declared.refusals.Refusal.{Refusal}
 use Rattle.names.specs.declared.refusals.Refusal.TheVariants.{BadOperator, TooDeep}

@@ -1,7 +1,7 @@
 -- Reading a whole text, step by step, and what its result says. Assumes nothing.
-use Rattle.std.proofs.Common.{◌≡◌, ℕ, List, [], length, Ok, Err, Result, sym, refl, ap, ◌∙◌, arith}
+use Rattle.std.proofs.Common.{◌≡◌, ℕ, List, [], length, Ok, Err, Result, sym, ap, ◌∙◌, arith}
 use Rattle.terms.specs.Parse.{after, parse, begun, ended, reading}
-use Rattle.terms.specs.Term.{Spelled, written, Readable}
+use Rattle.terms.specs.Term.{Spelled}
 use Rattle.terms.specs.Told.{IsRead, IsRefused}
 use Rattle.names.specs.declared.refusals.Refusal.{Refusal}
 use Rattle.terms.proofs.Firm.{firm_stands}

@@ -1,5 +1,5 @@
 -- A table of nodes, parts before wholes, and the trees that it stands for. Assumes nothing.
-use Rattle.std.specs.Prelude.{ℕ, suc, Bool, true, ◌&&◌, List, [], ◌∷◌, ◌++◌, map, length, take, nat_le, nat_lt, slice_index_or}
+use Rattle.std.specs.Prelude.{ℕ, suc, Bool, true, ◌&&◌, List, [], ◌∷◌, ◌++◌, map, take, nat_le, nat_lt, slice_index_or}
 use Rattle.terms.specs.Term.{Term, Spelled, top, bottom, class, neg, and, or, exists, forall, may, must}
 use Rattle.names.specs.declared.named.Name.{Name}
 use Rattle.terms.specs.declared.nodes.Node.{Node}

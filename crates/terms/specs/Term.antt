@@ -1,6 +1,6 @@
 -- Terms as trees, over any kind of name, and how a term is written. Assumes nothing.
 -- The language is that of ALC with one pair of modal operators for each reader (ALCK_m).
-use Rattle.std.specs.Prelude.{◌≡◌, ℕ, suc, ◌+◌, ◌≤◌, max, List, [], ◌∷◌, ◌++◌}
+use Rattle.std.specs.Prelude.{ℕ, suc, ◌+◌, ◌≤◌, max, List, [], ◌∷◌, ◌++◌}
 use Rattle.names.specs.Name.{Legal}
 
 pub data Term (N : Type 0) : Type 0 where

@@ -1,12 +1,10 @@
 -- Words, and what a word is read as. Assumes nothing.
-use Rattle.std.specs.Prelude.{ℕ, suc, ◌-◌, Bool, cond, ◌&&◌, List, [], ◌∷◌, take, drop, Some, None, Option, ◌==◌, nat_le}
-use Rattle.terms.specs.declared.words.Join.{Join}
+use Rattle.std.specs.Prelude.{ℕ, suc, ◌-◌, cond, ◌&&◌, List, [], ◌∷◌, take, drop, Some, None, Option, ◌==◌, nat_le}
 use Rattle.terms.specs.declared.words.Join.TheVariants.{And, Or}
 use Rattle.terms.specs.declared.words.Modality.{Modality}
 use Rattle.terms.specs.declared.words.Modality.TheVariants.{May, Must}
 use Rattle.terms.specs.declared.words.Operator as code
 use Rattle.terms.specs.declared.words.Operator.TheVariants.{Top, Bottom, Not, Join as Joining, Quantifier as Quantifying}
-use Rattle.terms.specs.declared.words.Quantifier.{Quantifier}
 use Rattle.terms.specs.declared.words.Quantifier.TheVariants.{Exists, Forall}
 
 -- A word reaches to the next space (byte 32), or to the end.

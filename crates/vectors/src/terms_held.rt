@@ -4,7 +4,7 @@ use std::alloc::{AllocError, Global};
 // Does reading a term come to what is expected: `ok`, or a refusal's number and place? One that reads is written back.
 pub(crate) fn term_agrees(heap: Global, term: &[u8], expected: &[u8]) -> Result<bool, AllocError> {
     match Expression::read(heap, term) {
-        Ok(expression) => Ok(expected == b"ok" && written_back(term, &expression)),
+        Ok(expression) => Ok(expected == b"ok".as_slice() && written_back(term, &expression)),
         Err(refusal) => {
             let number = refusal.number();
             let place = refusal.place();

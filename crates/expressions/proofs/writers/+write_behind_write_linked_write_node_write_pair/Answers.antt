@@ -1,4 +1,4 @@
-use Rattle.std.proofs.Common.{◌≡◌, ◌+◌, ◌≤◌, [], ◌∷◌, ◌++◌, map, length, get_or, sym, refl, ap, ◌∙◌, subst, arith}
+use Rattle.std.proofs.Common.{◌+◌, ◌≤◌, [], ◌∷◌, ◌++◌, map, length, get_or, sym, ap, ◌∙◌, subst, arith}
 use Rattle.expressions.proofs.Buffers.{first_fits, then_room, then_ends, then_over}
 use Rattle.expressions.proofs.Writing.{node_text}
 use Rattle.terms.specs.Nodes.{name_bytes}

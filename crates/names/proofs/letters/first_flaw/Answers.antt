@@ -1,6 +1,6 @@
-use Rattle.std.proofs.Common.{sym, refl, ap, ◌∙◌, arith}
+use Rattle.std.proofs.Common.{sym, refl, ap, ◌∙◌}
 use Rattle.std.proofs.lemmas.List.{nil_from_length}
-use Rattle.std.proofs.lemmas.Bool.{eqb-true, eqb-false}
+use Rattle.std.proofs.lemmas.Bool.{eqb-true}
 use Rattle.names.specs.Name.{flaw}
 use Rattle.names.proofs.Flaws.{scan_more, scan_stops, scan_ends}
 use Rattle.names.proofs.letters.first_flaw.Goals as goal

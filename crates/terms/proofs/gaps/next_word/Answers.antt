@@ -1,6 +1,5 @@
-use Rattle.std.proofs.Common.{◌≡◌, ◌-◌, ◌<◌, length, get_or, drop, Ok, Err, sym, refl, ap, ◌∙◌, subst, arith}
-use Rattle.std.proofs.lemmas.List.{take_rest, length-drop}
-use Rattle.std.proofs.lemmas.Bool.{eqb-false}
+use Rattle.std.proofs.Common.{◌≡◌, ◌-◌, length, get_or, Ok, Err, sym, ap, ◌∙◌, subst}
+use Rattle.std.proofs.lemmas.List.{take_rest}
 use Rattle.terms.proofs.Spaces.{gap_space, gap_word, more_than_one}
 use Rattle.names.specs.declared.refusals.Refusal.TheVariants.{StraySpace}
 use Rattle.terms.proofs.gaps.next_word.Goals as goal

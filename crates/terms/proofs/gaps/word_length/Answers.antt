@@ -1,4 +1,4 @@
-use Rattle.std.proofs.Common.{sym, refl, ap, ◌∙◌, arith}
+use Rattle.std.proofs.Common.{sym, ◌∙◌, arith}
 use Rattle.terms.proofs.Spaces.{word_stops, word_more, word_ends}
 use Rattle.terms.proofs.gaps.word_length.Goals as goal
 

@@ -1,10 +1,9 @@
-use Rattle.std.proofs.Common.{◌-◌, length, take, Some, None, Ok, Err, sym, refl, ap, ◌∙◌, subst, arith}
-use Rattle.std.proofs.lemmas.List.{length-take}
+use Rattle.std.proofs.Common.{length, take, Some, Err, sym, ap, ◌∙◌, subst, arith}
 use Rattle.terms.proofs.Spaces.{word_short}
 use Rattle.terms.proofs.Steps.{one_read, two_read, link_read, parse_none, at_none, at_name, at_operator, at_reader, carried, join_built, quantifier_built, modal_built}
 use Rattle.terms.specs.Forms.{joins, quantifies, modalizes}
 use Rattle.names.specs.Name.{flaw}
-use Rattle.terms.specs.Parse.{parse, place, named, only_class, operated}
+use Rattle.terms.specs.Parse.{parse, named, only_class, operated}
 use Rattle.terms.specs.Seen.{seen, Placed}
 use Rattle.terms.specs.Term.{top, bottom, neg}
 use Rattle.names.specs.declared.refusals.Refusal.TheVariants.{TooDeep, BadOperator}

@@ -1,6 +1,6 @@
-use Rattle.std.proofs.Common.{[], ◌∷◌, ◌++◌, map, Some, vec_items, sym, refl, ap, ◌∙◌, subst, arith}
+use Rattle.std.proofs.Common.{map, Some, vec_items, sym, refl, ap, ◌∙◌, subst, arith}
 use Rattle.distinct.specs.Numbering.{Apart}
-use Rattle.distinct.proofs.Places.{Adds, adds_none, adds_one}
+use Rattle.distinct.proofs.Places.{adds_none, adds_one}
 use Rattle.distinct.proofs.table.Distinct.add.Goals as goal
 
 pub returns-then-n-self : goal.returns-then-n-self
