@@ -1,5 +1,5 @@
 -- A chain of steps that ends well went well at each of them. Assumes nothing.
-use Rattle.std.proofs.Common.{◌≡◌, ℕ, Bool, true, false, cond, ◌&&◌, Ok, Err, Result, refl, arith}
+use Rattle.std.proofs.Common.{◌≡◌, ℕ, Bool, true, false, cond, Ok, Err, Result, refl, arith}
 use Rattle.names.specs.declared.refusals.Fault.{Fault}
 use Rattle.vocabulary.specs.Placing.{thus}
 

@@ -1,12 +1,12 @@
 -- What was accepted keeps its number. Assumes nothing.
-use Rattle.std.proofs.Common.{◌≡◌, ℕ, ◌<◌, ◌≤◌, Bool, true, false, cond, ◌&&◌, eqb, ltb, leb, List, [], ◌∷◌, ◌++◌, length, is_some, Some, Ok, Err, Option, Result, sym, refl, ap, ◌∙◌, subst, ⊎_elim, arith}
-use Rattle.std.proofs.lemmas.Bool.{cases_Bool, cond-false, cond-true, eqb-true, ltb-true, ltb-false}
+use Rattle.std.proofs.Common.{◌≡◌, ℕ, Bool, true, false, cond, ◌&&◌, eqb, leb, List, [], ◌∷◌, ◌++◌, length, is_some, Some, Ok, Err, Option, Result, sym, refl, ap, ◌∙◌, subst, ⊎_elim, arith}
+use Rattle.std.proofs.lemmas.Bool.{cases_Bool, cond-false, cond-true, eqb-true, ltb-false}
 use Rattle.distinct.specs.Numbering.{number, known}
 use Rattle.names.specs.declared.refusals.Fault.{Fault}
 use Rattle.names.specs.declared.refusals.Refusal.TheVariants.{NamesFull, TermsFull}
 use Rattle.sheet.proofs.Chains.{thus_ok, past, passed, same_ok}
 use Rattle.sheet.proofs.Glossed.{gloss_words_lem}
-use Rattle.sheet.specs.Content.{Assertion, stated, tied, Content, defined, with_line}
+use Rattle.sheet.specs.Content.{Assertion, stated, tied, Content, with_line}
 use Rattle.sheet.specs.History.{Call, gloss, state, tie, Event, Leads, nothing, next, outcome, Keeps, Lasting}
 use Rattle.sheet.specs.Outcome.{Told, glossed, circular, glossing, stating, tying}
 use Rattle.tables.proofs.Numbers.{with_front, with_known, all_front, front_refl, front_trans, front_number, number_below, number_new}
@@ -15,7 +15,7 @@ use Rattle.tables.specs.Texts.{parts}
 use Rattle.tables.specs.Vocabulary.{with_name, with_names, class_names, link_names}
 use Rattle.terms.specs.Term.{Term, Spelled}
 use Rattle.vocabulary.specs.Lexicon.{Lexicon, with_class, with_link, with_item, with_term}
-use Rattle.vocabulary.specs.Placing.{OfGloss, OfStatement, OfTie, thus, at, name_in, term_in, place_if, place_class, place_link, place_item, place_term, gloss_words, state_words, tie_words}
+use Rattle.vocabulary.specs.Placing.{OfStatement, OfTie, at, name_in, term_in, place_if, place_link, place_item, place_term, gloss_words, state_words, tie_words}
 
 -- a vocabulary that grew
 

@@ -1,5 +1,5 @@
 -- From what a call on a sheet's tables promises to what the call on the sheet does. Assumes nothing.
-use Rattle.std.proofs.Common.{◌≡◌, Ok, Err, Result, sym, ap, subst}
+use Rattle.std.proofs.Common.{Ok, Err, Result, sym, ap, subst}
 use Rattle.names.specs.declared.refusals.Fault.{Fault}
 use Rattle.sheet.proofs.Props.{fair_of}
 use Rattle.sheet.specs.Content.{Content}

@@ -1,5 +1,5 @@
 -- The law over histories: whatever was called on a sheet since it was new, it holds the accepted lines. Assumes nothing.
-use Rattle.std.specs.Prelude.{◌≡◌, ℕ, cond, List, [], ◌∷◌, ◌++◌, map, is_ok, Some, Ok, Err, Result}
+use Rattle.std.specs.Prelude.{◌≡◌, ℕ, cond, List, [], ◌∷◌, map, is_ok, Some, Result}
 use Rattle.names.specs.declared.refusals.Fault.{Fault}
 use Rattle.sheet.specs.Content.{Content, empty}
 use Rattle.sheet.specs.Outcome.{glossing, stating, tying, Told}

@@ -1,5 +1,5 @@
 -- The law of entering, from what the builder made. Assumes nothing.
-use Rattle.std.proofs.Common.{◌≡◌, ℕ, ◌≤◌, Bool, true, false, cond, leb, ◌⊎◌, List, length, Ok, Err, sym, refl, ap, ◌∙◌, subst, inl, inr, ⊎_elim, arith}
+use Rattle.std.proofs.Common.{◌≡◌, ℕ, Bool, true, false, cond, leb, List, length, Ok, Err, sym, refl, ap, ◌∙◌, subst, inl, inr, ⊎_elim, arith}
 use Rattle.std.proofs.lemmas.Bool.{and_from, and_parts, both_ways, cases_Bool, cond-true, cond-false, le-leb, leb-true}
 use Rattle.names.specs.declared.refusals.Refusal.TheVariants.{NamesFull, TermsFull}
 use Rattle.tables.proofs.Built.{Is}
@@ -8,7 +8,7 @@ use Rattle.tables.proofs.Says.{says}
 use Rattle.tables.proofs.Terms.{Done, done}
 use Rattle.tables.proofs.Texts.{texts_long}
 use Rattle.tables.specs.Book.{Book}
-use Rattle.tables.specs.Entry.{Room, Sound, Named, Says, Entry}
+use Rattle.tables.specs.Entry.{Named, Says, Entry}
 use Rattle.tables.specs.Enters.{Within, Orderly, Enters}
 use Rattle.tables.specs.Entered.{entered}
 use Rattle.tables.specs.Undo.{lowered}

@@ -1,18 +1,18 @@
 -- The nodes after a term was entered into tables of which only the nodes are known to be in order: they stand for that
 -- term over the numbers of its names. Assumes nothing.
-use Rattle.std.proofs.Common.{◌≡◌, ℕ, suc, ◌+◌, ◌<◌, ◌≤◌, Bool, true, false, cond, ◌&&◌, ◌||◌, ltb, leb, List, [], ◌∷◌, ◌++◌, map, length, get_or, sym, refl, ap, ◌∙◌, subst, ⊎_elim, zero-add, arith}
+use Rattle.std.proofs.Common.{◌≡◌, ℕ, ◌<◌, ◌≤◌, Bool, true, false, cond, ◌&&◌, ltb, leb, List, [], ◌∷◌, ◌++◌, map, length, get_or, sym, refl, ap, ◌∙◌, subst, ⊎_elim, zero-add, arith}
 use Rattle.std.proofs.lemmas.List.{get_or-map, get_or_push, length-map, length_push}
 use Rattle.std.proofs.lemmas.Bool.{and_from, or_parts, cases_Bool, cond-true, cond-false, lt-ltb, le-leb, ltb-true, ltb-false}
 use Rattle.distinct.proofs.Places.{apart_push}
 use Rattle.distinct.specs.Numbering.{Apart, number, known}
 use Rattle.tables.proofs.Known.{Known, known_kept, numbered_kept}
 use Rattle.tables.proofs.Names.{entered_named, flag_was, named_link, room_of}
-use Rattle.tables.proofs.Numbers.{front_trans, front_refl, front_long, front_number, with_known, with_front, all_front, number_at, number_below, keep_is, absent_at, label_is}
+use Rattle.tables.proofs.Numbers.{front_trans, front_refl, front_long, front_number, with_known, with_front, number_at, number_below, keep_is, absent_at, label_is}
 use Rattle.tables.proofs.Shown.{same_node}
-use Rattle.tables.specs.Book.{Book, keep, lacks, placed, labelled, label_of, noded, node_of}
+use Rattle.tables.specs.Book.{Book, lacks, labelled, label_of, noded, node_of}
 use Rattle.tables.specs.Entered.{Made, made, entered}
 use Rattle.tables.specs.Entry.{Front, Room, Sound, Says}
-use Rattle.tables.specs.Vocabulary.{with_name, with_names, class_names, link_names, numbered}
+use Rattle.tables.specs.Vocabulary.{with_name, class_names, link_names, numbered}
 use Rattle.terms.proofs.Trees.{tree_kept, tree_at, ordered_more, ordered_push}
 use Rattle.terms.specs.Kinds.{show_node}
 use Rattle.terms.specs.Nodes.{sound, ordered, decoded, trees, tree}

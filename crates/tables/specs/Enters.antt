@@ -1,5 +1,5 @@
 -- What entering a term into tables that are in order promises, by the writings of terms. Assumes nothing.
-use Rattle.std.specs.Prelude.{◌≡◌, ℕ, ◌<◌, ◌≤◌, true, List, [], ◌++◌, map, length, slice_index_or}
+use Rattle.std.specs.Prelude.{◌≡◌, ℕ, ◌<◌, ◌≤◌, true, [], map, length, slice_index_or}
 use Rattle.distinct.specs.Numbering.{Apart}
 use Rattle.names.specs.Name.{legal}
 use Rattle.tables.specs.Book.{Book}

@@ -1,5 +1,5 @@
 -- What the calls of a vocabulary promise, from those of its tables. Assumes nothing.
-use Rattle.std.proofs.Common.{◌≡◌, ℕ, ◌+◌, ◌≤◌, true, cond, leb, List, [], ◌++◌, map, length, drop, Ok, Err, Result, sym, ap, ◌∙◌, subst, arith, length-append, length-drop}
+use Rattle.std.proofs.Common.{◌≡◌, ℕ, ◌≤◌, true, cond, leb, List, [], ◌++◌, map, length, drop, Ok, Err, Result, sym, ap, ◌∙◌, subst, arith, length-append, length-drop}
 use Rattle.std.proofs.lemmas.Bool.{cond-true, le-leb}
 use Rattle.names.specs.declared.refusals.Fault.{Fault}
 use Rattle.names.specs.declared.refusals.Refusal.TheVariants.{ShortBuffer}

@@ -1,4 +1,4 @@
-use Rattle.std.proofs.Common.{[], ◌∷◌, length, vec_items, ap, ◌∙◌, arith}
+use Rattle.std.proofs.Common.{length, vec_items, ap, ◌∙◌, arith}
 use Rattle.std.proofs.lemmas.List.{length_push}
 use Rattle.sheet.proofs.Counting.{count_tie}
 use Rattle.sheet.specs.Counts.{statements_in}

@@ -4,7 +4,6 @@ use Rattle.sheet.proofs.Histories.{faithful, repeatable}
 use Rattle.sheet.proofs.Lasts.{lasting}
 use Rattle.sheet.specs.Store.{store_of}
 use Rattle.vocabulary.proofs.Props.{in_order}
-use Rattle.vocabulary.specs.Held.{held_by}
 use Rattle.sheet.proofs.sheets.Sheet.new.Goals as goal
 
 pub returns-in_err-new : goal.returns-in_err-new
