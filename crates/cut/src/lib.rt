@@ -1,7 +1,11 @@
 // A text cut at a byte: lines at byte 10, fields at byte 9.
 #![tactic(auto)]
 
+mod pieces;
+
 ghost use Rattle.std.specs.Prelude.{◌≡◌, ℕ, ◌+◌, ◌<◌, ◌≤◌, length, drop, ◌≢◌, slice_index};
+
+pub use pieces::{Pieces, cut_at};
 
 // How many bytes stand before the first `cut`, or before the end where there is none.
 pub fn piece_length(text: &[u8], cut: u8) -> usize
@@ -9,12 +13,7 @@ pub fn piece_length(text: &[u8], cut: u8) -> usize
     ensures before { (k : ℕ) → k < result → slice_index text.now k ≢ cut }
     ensures found { result < length text.now → slice_index text.now result ≡ cut }
 {
-    for (i, b) in text.iter().enumerate() {
-        if *b == cut {
-            return i;
-        }
-    }
-    text.len()
+    text.iter().position(|b| *b == cut).unwrap_or(text.len())
 }
 
 // What stands behind a piece of `n` bytes and the byte that ends it.

@@ -1,10 +1,15 @@
 -- What the number of an entry says of the places, and what keeps entries apart. Assumes nothing.
-use Rattle.std.proofs.Common.{◌≡◌, ℕ, zero, suc, ◌+◌, ◌<◌, ◌≤◌, true, false, List, [], ◌∷◌, ◌++◌, map, length, get_or, take, Some, None, Option, sym, refl, ap, ◌∙◌, subst, ⊎_elim, arith}
+use Rattle.std.proofs.Common.{◌≡◌, ℕ, zero, suc, Bool, cond, ltb, ◌+◌, ◌<◌, ◌≤◌, true, false, List, [], ◌∷◌, ◌++◌, map, length, get_or, take, Some, None, Option, sym, refl, ap, ◌∙◌, subst, ⊎_elim, arith}
 use Rattle.std.proofs.lemmas.Slice.Eq.{bytes_eq-Decides}
-use Rattle.std.proofs.lemmas.List.{get_or-map, get_or-take, get_or_push, get_or_append_left, length-map, length_push, map_push, take-map, length-take}
-use Rattle.std.proofs.lemmas.Bool.{cond-true, cond-false, lt-ltb, le-ltb, cases_Bool, cases_lt, cases_eq}
+use Rattle.std.proofs.lemmas.List.{get_or-take, get_or_push, get_or_append_left, length-map, length_push, map_push, take-map, length-take}
+use Rattle.std.proofs.lemmas.Bool.{cond-true, cond-false, lt-ltb, le-ltb, cases_Bool, cases_lt}
+use Rattle.std.proofs.lemmas.Bool.Decides.{not_from_Decides, same_from_decides}
+use Rattle.std.proofs.lemmas.List.Recursion.{is_position_or_len}
+use Rattle.std.proofs.lemmas.List.Sums.{passes_at_first, fails_before_first}
+use Rattle.std.specs.Bool.{Decides}
+use Rattle.std.specs.List.{position, position_or_len}
 use Rattle.std.specs.Str.{bytes_eq}
-use Rattle.distinct.specs.Numbering.{Apart, Found, number, known, place, added, entered}
+use Rattle.distinct.specs.Numbering.{Apart, Found, number, known, place, added}
 
 -- x is shown at none of the first n places
 abbrev pub Absent : List (List ℕ) → List ℕ → ℕ → Type 0
@@ -27,37 +32,45 @@ number_new [] x a = refl
 number_new (y ∷ ys) x a =
     cond-false _ 0 _ (differs y x (a 0 (omega arith))) ∙ ap suc (number_new ys x (λ k h. a (suc k) (omega arith)))
 
-pub record Told (xs : List (List ℕ)) (x : List ℕ) (r : Option ℕ) : Type 0 where
-  pub value : r ≡ place xs x
-  pub cases : Found xs x r
+-- the number of x is its first place
+first : (xs : List (List ℕ)) (x : List ℕ) → number xs x ≡ position_or_len (λ y. bytes_eq y x) xs
+first xs x = is_position_or_len (λ ys. number ys x) (λ y. bytes_eq y x) refl (λ y ys. ap (cond (bytes_eq y x) 0) (omega arith)) xs
 
-pub told_at : (xs : List (List ℕ)) (x : List ℕ) (i : ℕ) → i < length xs → get_or xs i [] ≡ x → Absent xs x i → Told xs x (Some i)
-told_at xs x i l e a =
-    let n = number_at xs x i l e a in
-    record {
-      value = sym (cond-true _ _ _ (lt-ltb (number xs x) (length xs) (omega arith)) ∙ ap (λ (k : ℕ). Some k) n);
-      cases = (l, e);
-    }
+shown_there : (xs : List (List ℕ)) (x : List ℕ) → number xs x < length xs → get_or xs (number xs x) [] ≡ x
+shown_there xs x h =
+    let p : List ℕ → Bool = λ y. bytes_eq y x in
+    let n = first xs x in
+    (bytes_eq-Decides _ x).0 (ap (λ i. p (get_or xs i [])) n ∙ passes_at_first p xs [] (omega (arith, n, h)))
 
-pub told_none : (xs : List (List ℕ)) (x : List ℕ) → Absent xs x (length xs) → Told xs x None
-told_none xs x a =
-    let n = number_new xs x a in
-    record {
-      value = sym (cond-false _ _ _ (le-ltb (number xs x) (length xs) (omega arith)));
-      cases = a;
-    }
+absent_before : (xs : List (List ℕ)) (x : List ℕ) → Absent xs x (number xs x)
+absent_before xs x k h =
+    not_from_Decides _ (bytes_eq-Decides (get_or xs k []) x) (fails_before_first (λ y. bytes_eq y x) xs k [] (omega (arith, first xs x, h)))
+
+-- what a look-up finds is what its place says
+pub found_at : (xs : List (List ℕ)) (x : List ℕ) (r : Option ℕ) → r ≡ place xs x → Found xs x r
+found_at xs x r e =
+    subst (Found xs x) (sym e)
+    (⊎_elim
+    (λ h. subst (Found xs x) (sym (cond-true _ _ _ (lt-ltb _ _ h))) (h, shown_there xs x h))
+    (λ h. subst (Found xs x) (sym (cond-false _ _ _ (le-ltb _ _ h))) (λ k l. absent_before xs x k (omega (arith, h, l))))
+    (cases_lt (number xs x) (length xs)))
 
 module _ {X : Type 0} (f : X → List ℕ) where
-  pub shows_at : (xs : List X) (i : ℕ) (y : X) (x : List ℕ) → i < length xs → y ≡ get_or xs i y → f y ≡ x → get_or (map f xs) i [] ≡ x
-  shows_at xs i y x l e s = get_or-map f xs i y [] l ∙ ap f (sym e) ∙ s
+  -- over entries that an equality tells apart by what they show
+  pub first_equal : (eq : X → X → Bool) → ((y x : X) → Decides (eq y x) (f y ≡ f x)) → (x : X) (xs : List X) → number (map f xs) (f x) ≡ position_or_len (λ y. eq y x) xs
+  first_equal eq tells x xs =
+      is_position_or_len
+      (λ ys. number (map f ys) (f x))
+      (λ y. eq y x)
+      refl
+      (λ y ys. ap (λ b. cond b 0 (suc (number (map f ys) (f x)))) (same_from_decides _ _ (bytes_eq-Decides (f y) (f x)) (tells y x)) ∙ ap (cond (eq y x) 0) (omega arith))
+      xs
 
-  -- one place more at which x is not shown
-  pub absent_more : (xs : List X) (x : List ℕ) (i : ℕ) (y : X) → i < length xs → y ≡ get_or xs i y → (f y ≡ x → ⊥) → Absent (map f xs) x i → Absent (map f xs) x (i + 1)
-  absent_more xs x i y l e n a k h s =
-      ⊎_elim
-      (λ same. n (sym (shows_at xs i y (f y) l e refl) ∙ ap (λ j. get_or (map f xs) j []) (sym same) ∙ s))
-      (λ other. a k (omega arith) s)
-      (cases_eq k i)
+  pub place_equal : (eq : X → X → Bool) → ((y x : X) → Decides (eq y x) (f y ≡ f x)) → (x : X) (xs : List X) → position (λ y. eq y x) xs ≡ place (map f xs) (f x)
+  place_equal eq tells x xs =
+      let n = first_equal eq tells x xs in
+      let l = length-map xs f in
+      ap (λ i. cond (ltb i (length xs)) (Some i) None) (sym n) ∙ ap (λ m. cond (ltb (number (map f xs) (f x)) m) (Some (number (map f xs) (f x))) None) (sym l)
 
   pub apart_take : (xs : List X) (n : ℕ) → Apart (map f xs) → Apart (map f (take n xs))
   apart_take xs n a i j ij l e =
@@ -77,31 +90,12 @@ module _ {X : Type 0} (f : X → List ℕ) where
       (λ h. n i (omega arith) (sym (left i (omega arith)) ∙ e ∙ (ap (λ ys. get_or ys j []) pushed ∙ get_or_push (map f xs) (f x) [] j (omega arith))))
       (cases_lt j (length (map f xs)))
 
-  -- what a call of `add` answers and leaves, where no entry is like x
-  pub record Adds (xs : List X) (limit : ℕ) (x : X) (r : Option ℕ) (ys : List X) : Type 0 where
-    pub value : r ≡ added (map f xs) limit (f x)
-    pub items : ys ≡ entered f xs limit x
-    pub apart : Apart (map f xs) → Apart (map f ys)
-
   new_known : (xs : List X) (x : X) → Found (map f xs) (f x) None → known (map f xs) (f x) ≡ false
   new_known xs x n = le-ltb _ _ (subst (λ k. length (map f xs) ≤ k) (sym (number_new (map f xs) (f x) n)) (omega arith))
 
-  pub adds_none : (xs : List X) (limit : ℕ) (x : X) → Found (map f xs) (f x) None → limit ≤ length xs → Adds xs limit x None xs
-  adds_none xs limit x n full =
+  -- a new entry, where a place is free, has the next number
+  pub added_new : (xs : List X) (limit : ℕ) (x : X) → Found (map f xs) (f x) None → length xs < limit → Some (length xs) ≡ added (map f xs) limit (f x)
+  added_new xs limit x n free =
       let new = new_known xs x n in
       let long : length (map f xs) ≡ length xs = length-map xs f in
-      record {
-        value = sym (cond-false _ _ _ new ∙ cond-false _ _ _ (le-ltb (length (map f xs)) limit (omega arith)));
-        items = sym (cond-false _ _ _ new ∙ cond-false _ _ _ (le-ltb (length xs) limit full));
-        apart = λ a. a;
-      }
-
-  pub adds_one : (xs : List X) (limit : ℕ) (x : X) → Found (map f xs) (f x) None → length xs < limit → Adds xs limit x (Some (length xs)) (xs ++ x ∷ [])
-  adds_one xs limit x n free =
-      let new = new_known xs x n in
-      let long : length (map f xs) ≡ length xs = length-map xs f in
-      record {
-        value = sym (cond-false _ _ _ new ∙ cond-true _ _ _ (lt-ltb (length (map f xs)) limit (omega arith)) ∙ ap (λ (k : ℕ). Some k) (number_new (map f xs) (f x) n ∙ long));
-        items = sym (cond-false _ _ _ new ∙ cond-true _ _ _ (lt-ltb (length xs) limit free));
-        apart = apart_push xs x n;
-      }
+      sym (cond-false _ _ _ new ∙ cond-true _ _ _ (lt-ltb (length (map f xs)) limit (omega arith)) ∙ ap (λ (k : ℕ). Some k) (number_new (map f xs) (f x) n ∙ long))

@@ -1,11 +1,9 @@
 ghost use Rattle.std.specs.Prelude.{◌≡◌, ℕ, List, Decides};
 
 // A kind whose values can be told alike or different.
-// What a value shows decides it: two values are alike exactly when they show the same. A kind may show all of
-// itself, or less, as a name that shows its bytes and not the room behind them.
-pub trait Alike {
+// What a value shows decides it: two values are equal exactly when they show the same.
+pub trait Alike: PartialEq {
     ghost shown: { Self → List ℕ };
 
-    fn alike(&self, other: &Self) -> bool
-        ensures { Decides result (shown self.now ≡ shown other.now) };
+    ghost tells: { (x y : Self) → Decides (Self.eq x y) (shown x ≡ shown y) };
 }

@@ -1,4 +1,4 @@
-ghost use Rattle.std.specs.Prelude.{◌≡◌, ℕ, ◌<◌, ◌≤◌, cond, List, [], ◌∷◌, ◌++◌, map, length, take, IfOk, vec_len, vec_capacity};
+ghost use Rattle.std.specs.Prelude.{vec_items, ◌≡◌, ℕ, ◌<◌, ◌≤◌, cond, List, [], ◌∷◌, ◌++◌, map, length, take, IfOk, vec_len, vec_capacity};
 ghost use Rattle.std.specs.Slice.{IsGetResult};
 ghost use Rattle.distinct.specs.Numbering.{Apart, Found, place, added, entered};
 
@@ -10,12 +10,7 @@ fn position<T: Alike>(items: &[T], x: &T) -> Option<usize>
     ensures value { result ≡ place (map T.shown items.now) (T.shown x.now) }
     ensures cases { Found (map T.shown items.now) (T.shown x.now) result }
 {
-    for (i, y) in items.iter().enumerate() {
-        if y.alike(x) {
-            return Some(i);
-        }
-    }
-    None
+    items.iter().position(|y| *y == *x)
 }
 
 // Entries in the order in which they came, no two alike, at most `limit` of them; their number is their place.
@@ -26,12 +21,13 @@ pub struct Distinct<T: Alike> {
     limit: usize,
     ghost room: { limit ≤ vec_capacity items },
     ghost few: { vec_len items ≤ limit },
+    ghost apart: { Apart (map T.Alike.shown (vec_items items)) },
 }
 
 impl<T: Alike> Distinct<T> {
     // An empty table for at most `limit` entries.
     pub fn new(heap: Global, limit: usize) -> Result<Distinct<T>, AllocError>
-        ensures { IfOk result (λ d. (d.items.items ≡ []) × (d.limit ≡ limit) × Apart (map T.shown d.items.items)) }
+        ensures { IfOk result (λ d. (d.items.items ≡ []) × (d.limit ≡ limit)) }
     {
         Ok(Distinct {
             items: Vec::with_capacity(heap, limit)?,
@@ -67,7 +63,6 @@ impl<T: Alike> Distinct<T> {
         ensures value { result ≡ added (map T.shown self.old.items.items) self.old.limit (T.shown x) }
         ensures items { self.new.items.items ≡ entered T.shown self.old.items.items self.old.limit x }
         ensures limit { self.new.limit ≡ self.old.limit }
-        ensures apart { Apart (map T.shown self.old.items.items) → Apart (map T.shown self.new.items.items) }
     {
         if let Some(i) = self.find(&x) {
             return Some(i);
@@ -80,28 +75,27 @@ impl<T: Alike> Distinct<T> {
         Some(n)
     }
 
-    // The same entries under the same numbers, in memory of their own.
-    pub fn copy(&self, heap: Global) -> Result<Distinct<T>, AllocError>
-    where
-        T: Copy,
-        ensures { IfOk result (λ d. (d.items.items ≡ self.now.items.items) × (d.limit ≡ self.now.limit)) }
-    {
-        let mut items = Vec::with_capacity(heap, self.limit)?;
-        items.extend_from_slice(self.as_slice())?;
-        Ok(Distinct {
-            items,
-            limit: self.limit,
-        })
-    }
-
     // Takes back all but the first `n` entries.
     pub fn truncate(&mut self, n: usize)
     where
         T: Drop,
         ensures items { self.new.items.items ≡ take n self.old.items.items }
         ensures limit { self.new.limit ≡ self.old.limit }
-        ensures apart { Apart (map T.shown self.old.items.items) → Apart (map T.shown self.new.items.items) }
     {
         self.items.truncate(n);
+    }
+}
+
+// A copy has the same entries under the same numbers, and memory of its own for as many.
+impl<T: Alike + Copy> Clone for Distinct<T> {
+    ghost is_clone = { λ old new. (new.items.items ≡ old.items.items) × (new.limit ≡ old.limit) };
+
+    fn clone(&self) -> Result<Distinct<T>, AllocError> {
+        let mut items = Vec::with_capacity(*self.items.allocator(), self.limit)?;
+        items.extend_from_slice(self.as_slice())?;
+        Ok(Distinct {
+            items,
+            limit: self.limit,
+        })
     }
 }

@@ -1,5 +1,6 @@
 -- What a refusal tells: its number, and its place in the term. Assumes nothing.
 use Rattle.std.specs.Prelude.{ℕ}
+use Rattle.names.specs.declared.refusals.Fault.{Fault}
 use Rattle.names.specs.declared.refusals.Refusal.{Refusal}
 use Rattle.names.specs.declared.refusals.Refusal.TheVariants.{BadName, BadOperator, EndsEarly, LeftOver, StraySpace, TooDeep, UnknownLetter, WrongStage, FieldCount, Unended, FileTooLong, ShortBuffer, NamesFull, TermsFull, GlossedAlready, Circle, LinesFull, NoMemory}
 
@@ -43,3 +44,7 @@ place_of GlossedAlready = 0
 place_of Circle = 0
 place_of LinesFull = 0
 place_of NoMemory = 0
+
+-- a refusal about a field, as a call tells it
+abbrev pub at : ℕ → Refusal → Fault
+at f e = record { field = f; refusal = e }

@@ -1,6 +1,8 @@
 // Names, and the refusals that the layers above tell.
 #![tactic(auto)]
 
+mod faults;
+mod kinds;
 mod letters;
 mod named;
 mod refusals;

@@ -1,17 +1,18 @@
-ghost use Rattle.std.specs.Prelude.{◌≡◌, ◌≤◌, true, take, Decides, MatchResult};
+ghost use Rattle.std.specs.Prelude.{◌≡◌, ◌-◌, ◌≤◌, true, ◌++◌, length, take, replicate, MatchResult};
 ghost use Rattle.names.specs.Name.{legal, Legal, FirstFlaw};
 
 use crate::letters::first_flaw;
-use distinct::Alike;
 
 // A name: 1 to 16 bytes, letters, digits and bytes from 128 on, the first no digit.
-// Its bytes are the first `len` of `bytes`; what stands behind them is no part of it.
-#[derive(Clone, Copy)]
+// Its bytes are the first `len` of `bytes`; zeros stand behind them, so that equal names are equal throughout.
+#[derive(Clone, Copy, Debug, PartialEq, Eq)]
 pub struct Name {
     len: usize,
     bytes: [u8; 16],
     ghost short: { len ≤ 16 },
     ghost fine: { legal (take len bytes) ≡ true },
+    ghost whole: { length (take len bytes) ≡ len },
+    ghost padded: { bytes ≡ take len bytes ++ replicate (16 - len) 0 },
 }
 
 impl Name {
@@ -32,20 +33,5 @@ impl Name {
         ensures { result.now ≡ take self.now.len self.now.bytes }
     {
         &self.bytes[0..self.len]
-    }
-}
-
-fn same_bytes(a: &[u8], b: &[u8]) -> bool
-    ensures { Decides result (a.now ≡ b.now) }
-{
-    a == b
-}
-
-// Two names are alike when all their bytes are.
-impl Alike for Name {
-    ghost shown = { λ n. take n.len n.bytes };
-
-    fn alike(&self, other: &Name) -> bool {
-        same_bytes(self.as_slice(), other.as_slice())
     }
 }

@@ -35,24 +35,13 @@ impl Refusal {
         ensures { result ≡ place_of self }
     {
         match self {
-            Refusal::BadName { place } => place,
-            Refusal::BadOperator { place } => place,
-            Refusal::EndsEarly { place } => place,
-            Refusal::LeftOver { place } => place,
-            Refusal::StraySpace { place } => place,
-            Refusal::TooDeep { place } => place,
-            Refusal::UnknownLetter => 0,
-            Refusal::WrongStage => 0,
-            Refusal::FieldCount => 0,
-            Refusal::Unended => 0,
-            Refusal::FileTooLong => 0,
-            Refusal::ShortBuffer => 0,
-            Refusal::NamesFull => 0,
-            Refusal::TermsFull => 0,
-            Refusal::GlossedAlready => 0,
-            Refusal::Circle => 0,
-            Refusal::LinesFull => 0,
-            Refusal::NoMemory => 0,
+            Refusal::BadName { place }
+            | Refusal::BadOperator { place }
+            | Refusal::EndsEarly { place }
+            | Refusal::LeftOver { place }
+            | Refusal::StraySpace { place }
+            | Refusal::TooDeep { place } => place,
+            _ => 0,
         }
     }
 }

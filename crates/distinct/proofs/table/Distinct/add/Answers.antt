@@ -1,23 +1,13 @@
-use Rattle.std.proofs.Common.{map, Some, vec_items, sym, refl, ap, ◌∙◌, subst, arith}
+use Rattle.std.proofs.Common.{map, vec_items, sym, ap, ◌∙◌, subst, Some, arith}
 use Rattle.distinct.specs.Numbering.{Apart}
-use Rattle.distinct.proofs.Places.{adds_none, adds_one}
+use Rattle.distinct.proofs.Places.{added_new, apart_push}
 use Rattle.distinct.proofs.table.Distinct.add.Goals as goal
 
-pub returns-then-n-self : goal.returns-then-n-self
-returns-then-n-self g c =
+pub returns-clause-value : goal.returns-clause-value
+returns-clause-value g c =
     let long = c.args.self.now.items.ok.0 in
-    let done = adds_none g.T.Alike.shown (vec_items c.args.self.now.items) c.args.self.now.limit c.args.x c.in_default.ensures.cases (omega arith) in
-    record { value = done.value; items = done.items; limit = refl; apart = done.apart }
+    ap Some c.len-n.ensures ∙ added_new g.T.Alike.shown (vec_items c.args.self.now.items) c.args.self.now.limit c.args.x c.in_default.ensures.cases (omega arith)
 
-pub returns : goal.returns
-returns g c =
-    let long = c.args.self.now.items.ok.0 in
-    let show = g.T.Alike.shown in
-    let done = adds_one show (vec_items c.args.self.now.items) c.args.self.now.limit c.args.x c.in_default.ensures.cases (omega arith) in
-    let pushed = c.push_reserved.ensures.items in
-    record {
-      value = ap Some c.len-n.ensures ∙ done.value;
-      items = pushed ∙ done.items;
-      limit = refl;
-      apart = λ a. subst (λ ys. Apart (map show ys)) (sym pushed) (done.apart a);
-    }
+pub invariant_of-self-clause-apart : goal.invariant_of-self-clause-apart
+invariant_of-self-clause-apart g c =
+    subst (λ xs. Apart (map g.T.Alike.shown xs)) (sym c.push_reserved.ensures.items) (apart_push g.T.Alike.shown _ _ c.in_default.ensures.cases c.args.self.now.apart)

@@ -1,7 +1,7 @@
-use Rattle.std.proofs.Common.{◌≡◌, ◌≤◌, true, length, sym, ap, ◌∙◌, subst, rules}
-use Rattle.std.proofs.lemmas.List.{take_at}
+use Rattle.std.proofs.Common.{◌≡◌, ◌≤◌, true, length, sym, ap, subst, rules}
 use Rattle.names.specs.Name.{legal}
 use Rattle.names.proofs.Flaws.{first_flaw_says, legal_when, legal_is}
+use Rattle.names.proofs.Padding.{front_is, rest_is}
 use Rattle.names.proofs.named.Name.new.Goals as goal
 
 pub returns-in-Some : goal.returns-in-Some
@@ -15,11 +15,14 @@ slice_bounds-bytes-end c =
 pub invariant_of-result : goal.invariant_of-result
 invariant_of-result c =
     let none = sym c.in_default.ensures in
-    let copied = c.copy_from_slice.ensures.after in
-    let is = take_at c.copy_from_slice.new.self _ (length c.args.word.now) (ap length copied) ∙ copied in
-    record { short = (legal_when c.args.word.now none).short; fine = subst (λ w. legal w ≡ true) (sym is) (legal_is c.args.word.now none) }
+    let is = front_is c.args.word.now _ c.copy_from_slice.ensures.after in
+    record {
+      short = (legal_when c.args.word.now none).short;
+      fine = subst (λ w. legal w ≡ true) (sym is) (legal_is c.args.word.now none);
+      whole = ap length is;
+      padded = rest_is c.args.word.now _ c.copy_from_slice.ensures.after;
+    }
 
 pub returns : goal.returns
 returns c =
-    let copied = c.copy_from_slice.ensures.after in
-    (take_at c.copy_from_slice.new.self _ (length c.args.word.now) (ap length copied) ∙ copied, legal_when c.args.word.now (sym c.in_default.ensures))
+    (front_is c.args.word.now _ c.copy_from_slice.ensures.after, legal_when c.args.word.now (sym c.in_default.ensures))
