@@ -1,50 +1,42 @@
 -- Bytes put into a buffer, one piece behind another. Assumes nothing.
-use Rattle.std.proofs.Common.{◌≡◌, ℕ, ◌+◌, ◌≤◌, List, ◌++◌, length, take, drop, sym, ap, ◌∙◌, append_assoc, add_assoc, arith}
-use borrow.Rule.Slice.PartMut.{put_mid}
-use Rattle.std.proofs.lemmas.List.{length-append, length-take-le, length-drop, drop-drop, take_at, drop_at}
-use Rattle.expressions.specs.Spelling.{over}
-
-pub put_is : (d : List ℕ) (at k : ℕ) (s c : List ℕ) → k ≡ length s → c ≡ s → put_mid at k d c ≡ over d at s
-put_is d at k s c e f =
-    ap (λ x. take at d ++ (x ++ drop k (drop at d))) f ∙ ap (λ x. take at d ++ (s ++ x)) (drop-drop k at d ∙ ap (λ n. drop (at + n) d) e)
+use Rattle.std.proofs.Common.{◌≡◌, ℕ, ◌+◌, ◌≤◌, List, ◌++◌, length, take, drop, sym, ap, subst, ◌∙◌, append_assoc, add_assoc, arith}
+use Rattle.std.proofs.lemmas.List.{length-append, drop-drop, drop_at}
+use Rattle.std.proofs.lemmas.Grind.{common_steps}
+use Rattle.expressions.specs.Writer.{over, Room, Added}
+use Rattle.expressions.specs.declared.writers.Writer.{Writer}
 
 module _ (d : List ℕ) (at : ℕ) (s : List ℕ) (fits : at + length s ≤ length d) where
-  front_long : length (take at d ++ s) ≡ at + length s
-  front_long = length-append (take at d) s ∙ ap (λ n. n + length s) (length-take-le at d (omega arith))
-
-  over_apart : over d at s ≡ (take at d ++ s) ++ drop (at + length s) d
-  over_apart = sym (append_assoc (take at d) s (drop (at + length s) d))
-
   pub length_over : length (over d at s) ≡ length d
-  length_over =
-      let l = front_long in
-      let r = length-drop (at + length s) d in
-      let a = ap length over_apart ∙ length-append (take at d ++ s) (drop (at + length s) d) in omega arith
+  length_over = grind (arith, common_steps)
 
   -- a second piece behind the first
   pub over_over : (t : List ℕ) → over (over d at s) (at + length s) t ≡ over d at (s ++ t)
   over_over t =
       let n = at + length s in
-      let front : take n (over d at s) ≡ take at d ++ s = ap (take n) over_apart ∙ take_at (take at d ++ s) (drop n d) n front_long in
-      let back : drop (n + length t) (over d at s) ≡ drop (at + length (s ++ t)) d =
-      sym (drop-drop (length t) n (over d at s)) ∙ ap (drop (length t)) (ap (drop n) over_apart ∙ drop_at (take at d ++ s) (drop n d) n front_long) ∙ drop-drop (length t) n d
-      ∙ ap (λ k. drop k d) (add_assoc at (length s) (length t) ∙ ap (λ k. at + k) (sym (length-append s t))) in
-      ap (λ x. x ++ (t ++ drop (n + length t) (over d at s))) front ∙ ap (λ x. (take at d ++ s) ++ (t ++ x)) back
-      ∙ append_assoc (take at d) s (t ++ drop (at + length (s ++ t)) d) ∙ ap (λ x. take at d ++ x) (sym (append_assoc s t (drop (at + length (s ++ t)) d)))
+      let long : length (take at d ++ s) ≡ n = grind (arith, common_steps) in
+      let front : take n (over d at s) ≡ take at d ++ s = grind (arith, common_steps) in
+      let behind : drop n (over d at s) ≡ drop n d = rw (← append_assoc) (drop_at (take at d ++ s) (drop n d) n long) in
+      let back : drop (n + length t) (over d at s) ≡ drop (n + length t) d = sym (drop-drop (length t) n (over d at s)) ∙ ap (drop (length t)) behind ∙ drop-drop (length t) n d in
+      rw (front, back) (simp (append_assoc, length-append, add_assoc))
 
--- s from `at` on, and then t: where it ends, and what the buffer holds
-module _ (out : List ℕ) (at : ℕ) (s t : List ℕ) (room : at + length (s ++ t) ≤ length out) where
-  pub first_fits : at + length s ≤ length out
-  first_fits = let l = length-append s t in omega arith
+-- s and then t
 
-  module _ (out₁ : List ℕ) (at₁ : ℕ) (is : out₁ ≡ over out at s) (ends : at₁ ≡ at + length s) where
-    pub then_room : at₁ + length t ≤ length out₁
-    then_room =
-        let l = length-append s t in
-        let k = ap length is ∙ length_over out at s first_fits in omega arith
+pub room_first : (w : Writer) (r s t : List ℕ) → Room w r → r ≡ s ++ t → Room w s
+room_first w r s t h e = record { fits = omega (arith, ap length e, length-append s t) }
 
-    pub then_ends : (r : ℕ) → r ≡ at₁ + length t → r ≡ at + length (s ++ t)
-    then_ends r e = let l = length-append s t in omega arith
+pub room_then : (w v : Writer) (r s t : List ℕ) → Room w r → Added w s v → r ≡ s ++ t → Room v t
+room_then w v r s t h a e = record { fits = omega (arith, ap length e, length-append s t, ap length a.text ∙ length_over w.out.now w.at s a.fits) }
 
-    pub then_over : (out₂ : List ℕ) → out₂ ≡ over out₁ at₁ t → out₂ ≡ over out at (s ++ t)
-    then_over out₂ e = e ∙ ap (λ d. over d at₁ t) is ∙ ap (λ n. over (over out at s) n t) ends ∙ over_over out at s first_fits t
+pub ruleset rooms = (room_first, room_then)
+
+pub added_then : {w v u : Writer} {s t : List ℕ} → Added w s v → Added v t u → Added w (s ++ t) u
+added_then {w = w} {v = v} {s = s} {t = t} a b =
+    record {
+      fits = omega (arith, length-append s t, ap length a.text ∙ length_over w.out.now w.at s a.fits);
+      same_buffer = b.same_buffer ∙ a.same_buffer;
+      end = omega (arith, length-append s t);
+      text = b.text ∙ ap (λ d. over d v.at t) a.text ∙ ap (λ n. over (over w.out.now w.at s) n t) a.end ∙ over_over w.out.now w.at s a.fits t;
+    }
+
+pub added_as : {w u : Writer} {s t : List ℕ} → s ≡ t → Added w t u → Added w s u
+added_as {w = w} {u = u} e a = subst (λ r. Added w r u) (sym e) a

@@ -1,9 +1,10 @@
 -- What a draft holds after a term was built in it: the term. Assumes nothing.
-use Rattle.std.proofs.Common.{◌≡◌, ℕ, suc, ◌<◌, ◌≤◌, Bool, true, false, ◌&&◌, ltb, leb, List, [], ◌∷◌, ◌++◌, length, get_or, sym, refl, ap, ◌∙◌, subst, append_assoc, zero-add, arith}
+use Rattle.std.proofs.Common.{◌≡◌, ℕ, suc, ◌<◌, ◌≤◌, Bool, true, Ok, ◌&&◌, ltb, leb, List, [], ◌∷◌, ◌++◌, length, get_or, sym, refl, ap, ◌∙◌, subst, append_assoc, zero-add, arith}
 use Rattle.std.proofs.lemmas.List.{append-nil, get_or_append_left, get_or_push, length-append, length_push}
 use Rattle.std.proofs.lemmas.Bool.{and_from, lt-ltb, le-leb}
 use Rattle.terms.specs.Built.{Built}
-use Rattle.expressions.specs.Draft.{Contents, named, next_name, noded, Labels, Makes}
+use Rattle.expressions.specs.Draft.{Contents, contents, Named, Noded, Labels, Makes}
+use Rattle.expressions.specs.declared.drafts.Draft.{Draft}
 use Rattle.terms.specs.Nodes.{sound, ordered, decoded, trees, tree, spelled}
 use Rattle.terms.specs.Term.{Term, Spelled, top, bottom, class, neg, and, or, exists, forall, may, must, Valid}
 use Rattle.terms.specs.declared.nodes.Node.{Node}
@@ -53,8 +54,8 @@ pub record Says (d e : Contents) (i : ℕ) (t : Spelled) : Type 0 where
   pub last : suc i ≡ length e.nodes
   pub reads : term e i ≡ t
 
-says_after : (d e f : Contents) (i : ℕ) (t : Spelled) → Grew d e → Says e f i t → Says d f i t
-says_after d e f i t g s =
+says_after : {d e f : Contents} {i : ℕ} {t : Spelled} → Grew d e → Says e f i t → Says d f i t
+says_after {d = d} {e = e} {f = f} g s =
     record {
       grew = record {
         classes = front_trans d.classes e.classes f.classes g.classes s.grew.classes;
@@ -67,7 +68,7 @@ says_after d e f i t g s =
     }
 
 -- a node over parts that are there
-says_node : (d e : Contents) (n : Node) (i : ℕ) (t : Spelled) → Fair d → (i ≡ length d.nodes) × (e ≡ noded n d) → sound (length d.classes) (length d.links) (length d.nodes) n ≡ true → spelled d.classes d.links (decoded (trees d.nodes) n) ≡ t → Says d e i t
+says_node : (d e : Contents) (n : Node) (i : ℕ) (t : Spelled) → Fair d → Noded d n i e → sound (length d.classes) (length d.links) (length d.nodes) n ≡ true → spelled d.classes d.links (decoded (trees d.nodes) n) ≡ t → Says d e i t
 says_node d e n i t f (at, is) s r =
     let l = length_push d.nodes n in
     subst (λ e. Says d e i t) (sym is) (record {
@@ -82,8 +83,8 @@ says_node d e n i t f (at, is) s r =
     })
 
 -- a name that is added
-grew_name : (d e : Contents) (k : Sort) (w : List ℕ) → Fair d → e ≡ named k w d → Grew d e
-grew_name d e OfClass w f is =
+grew_name : (d e : Contents) (k : Sort) (w : List ℕ) (i : ℕ) → Fair d → Named d k w i e → Grew d e
+grew_name d e OfClass w i f (at, is) =
     let l = length_push d.classes w in
     subst (Grew d) (sym is) (record {
       classes = (w ∷ [], refl);
@@ -91,7 +92,7 @@ grew_name d e OfClass w f is =
       nodes = ([], sym (append-nil d.nodes));
       fair = ordered_more (length d.classes) (length d.links) (length (d.classes ++ w ∷ [])) (length d.links) 0 (omega arith) (omega arith) d.nodes f;
     })
-grew_name d e OfLink w f is =
+grew_name d e OfLink w i f (at, is) =
     let l = length_push d.links w in
     subst (Grew d) (sym is) (record {
       classes = ([], sym (append-nil d.classes));
@@ -100,97 +101,93 @@ grew_name d e OfLink w f is =
       fair = ordered_more (length d.classes) (length d.links) (length d.classes) (length (d.links ++ w ∷ [])) 0 (omega arith) (omega arith) d.nodes f;
     })
 
-module _ {S : Type 0} (v : S → Contents) where
-  abbrev labels : S → Sort → List ℕ → ℕ → S → Type 0
-  labels d k w i e = Labels (v d) k w i (v e)
+-- one part, two parts, and a link with a part
 
-  abbrev makes : S → Node → ℕ → S → Type 0
-  makes d n i e = Makes (v d) n i (v e)
+below : {d e : Contents} {a : ℕ} {t : Spelled} → Says d e a t → ltb a (length e.nodes) ≡ true
+below {e = e} {a = a} p = lt-ltb a (length e.nodes) (omega arith)
 
-  -- where memory sufficed at the end, it did before
-  enough_node : (d e : S) (n : Node) (i : ℕ) → makes d n i e → (v e).short ≡ false → (v d).short ≡ false
-  enough_node d e n i m s = sym (ap (λ x. x.short) (m s).1) ∙ s
+one_says : {d d₁ e : Contents} {t : Spelled} {a i : ℕ} (make : Spelled → Spelled) (n : Node) → ((ts : List (Term ℕ)) → spelled d₁.classes d₁.links (decoded ts n) ≡ make (spelled d₁.classes d₁.links (get_or ts a bottom))) → (ltb a (length d₁.nodes) ≡ true → sound (length d₁.classes) (length d₁.links) (length d₁.nodes) n ≡ true) → Says d d₁ a t → Noded d₁ n i e → Says d e i (make t)
+one_says {d₁ = d₁} {e = e} {t = t} {i = i} make n shape fits p m =
+    says_after p.grew (says_node d₁ e n i (make t) p.grew.fair m (fits (below p)) (shape (trees d₁.nodes) ∙ ap make p.reads))
 
-  enough_name : (d e : S) (k : Sort) (w : List ℕ) (i : ℕ) → labels d k w i e → (v e).short ≡ false → (v d).short ≡ false
-  enough_name d e OfClass w i m s = sym (ap (λ x. x.short) (m s).1) ∙ s
-  enough_name d e OfLink w i m s = sym (ap (λ x. x.short) (m s).1) ∙ s
+pair_says : {d d₁ d₂ e : Contents} {t u : Spelled} {a b i : ℕ} (make : Spelled → Spelled → Spelled) (n : ℕ → ℕ → Node) → ((ts : List (Term ℕ)) → spelled d₂.classes d₂.links (decoded ts (n a b)) ≡ make (spelled d₂.classes d₂.links (get_or ts a bottom)) (spelled d₂.classes d₂.links (get_or ts b bottom))) → (ltb a (length d₂.nodes) ≡ true → ltb b (length d₂.nodes) ≡ true → sound (length d₂.classes) (length d₂.links) (length d₂.nodes) (n a b) ≡ true) → Says d d₁ a t → Says d₁ d₂ b u → Noded d₂ (n a b) i e → Says d e i (make t u)
+pair_says {d₁ = d₁} {d₂ = d₂} {e = e} {t = t} {u = u} {a = a} {b = b} {i = i} make n shape fits p q m =
+    let more = front_long d₁.nodes d₂.nodes q.grew.nodes in
+    let left = term_kept d₁ d₂ a p.grew.fair q.grew (omega arith) ∙ p.reads in
+    says_after p.grew
+    (says_after q.grew
+    (says_node d₂ e (n a b) i (make t u) q.grew.fair m (fits (lt-ltb a (length d₂.nodes) (omega arith)) (below q)) (shape (trees d₂.nodes) ∙ ap (λ x. make x (term d₂ b)) left ∙ ap (make t) q.reads)))
 
-  enough : (t : Spelled) (d e : S) (i : ℕ) → Built labels makes t d i e → (v e).short ≡ false → (v d).short ≡ false
-  enough top d e i b s = enough_node d e Top i b s
-  enough bottom d e i b s = enough_node d e Bottom i b s
-  enough (class n) d e i (c, d₁, l, m) s = enough_name d d₁ OfClass n c l (enough_node d₁ e (Class c) i m s)
-  enough (neg t) d e i (a, d₁, b, m) s = enough t d d₁ a b (enough_node d₁ e (Not a) i m s)
-  enough (and t u) d e i (a, d₁, b, d₂, x, y, m) s = enough t d d₁ a x (enough u d₁ d₂ b y (enough_node d₂ e (And a b) i m s))
-  enough (or t u) d e i (a, d₁, b, d₂, x, y, m) s = enough t d d₁ a x (enough u d₁ d₂ b y (enough_node d₂ e (Or a b) i m s))
-  enough (exists r t) d e i (l, d₁, a, d₂, x, y, m) s = enough_name d d₁ OfLink r l x (enough t d₁ d₂ a y (enough_node d₂ e (Exists l a) i m s))
-  enough (forall r t) d e i (l, d₁, a, d₂, x, y, m) s = enough_name d d₁ OfLink r l x (enough t d₁ d₂ a y (enough_node d₂ e (Forall l a) i m s))
-  enough (may k t) d e i (a, d₁, b, m) s = enough t d d₁ a b (enough_node d₁ e (May k a) i m s)
-  enough (must k t) d e i (a, d₁, b, m) s = enough t d d₁ a b (enough_node d₁ e (Must k a) i m s)
+link_name : (d e f : Contents) (r : List ℕ) (l : ℕ) → Named d OfLink r l e → Grew e f → (get_or f.links l [] ≡ r) × (ltb l (length f.links) ≡ true)
+link_name d e f r l (at, is) g =
+    let links : e.links ≡ d.links ++ r ∷ [] = ap (λ x. x.links) is in
+    let long = ap length links ∙ length_push d.links r in
+    let more = front_long e.links f.links g.links in
+    (front_get_or e.links f.links l [] g.links (omega arith) ∙ ap (λ x. get_or x l []) links ∙ get_or_push d.links r [] l (sym at), lt-ltb l (length f.links) (omega arith))
 
-  -- one part, two parts, and a link with a part
-  below : (d e : Contents) (a : ℕ) (t : Spelled) → Says d e a t → ltb a (length e.nodes) ≡ true
-  below d e a t p = lt-ltb a (length e.nodes) (let h = p.last in omega arith)
+link_says : {d d₁ d₂ e : Contents} {r : List ℕ} {t : Spelled} {l a i : ℕ} (make : List ℕ → Spelled → Spelled) (n : ℕ → ℕ → Node) → ((ts : List (Term ℕ)) → spelled d₂.classes d₂.links (decoded ts (n l a)) ≡ make (get_or d₂.links l []) (spelled d₂.classes d₂.links (get_or ts a bottom))) → (ltb l (length d₂.links) ≡ true → ltb a (length d₂.nodes) ≡ true → sound (length d₂.classes) (length d₂.links) (length d₂.nodes) (n l a) ≡ true) → Grew d d₁ → Named d OfLink r l d₁ → Says d₁ d₂ a t → Noded d₂ (n l a) i e → Says d e i (make r t)
+link_says {d = d} {d₁ = d₁} {d₂ = d₂} {e = e} {r = r} {t = t} {l = l} {a = a} {i = i} make n shape fits g x q m =
+    let (name, known) = link_name d d₁ d₂ r l x q.grew in
+    says_after g
+    (says_after q.grew
+    (says_node d₂ e (n l a) i (make r t) q.grew.fair m (fits known (below q)) (shape (trees d₂.nodes) ∙ ap (λ y. make y (term d₂ a)) name ∙ ap (make r) q.reads)))
 
-  link_name : (d e f : Contents) (r : List ℕ) (l : ℕ) → (l ≡ next_name OfLink d) × (e ≡ named OfLink r d) → Grew e f → (get_or f.links l [] ≡ r) × (ltb l (length f.links) ≡ true)
-  link_name d e f r l (at, is) g =
-      let links : e.links ≡ d.links ++ r ∷ [] = ap (λ x. x.links) is in
-      let long = ap length links ∙ length_push d.links r in
-      let more = front_long e.links f.links g.links in
-      (front_get_or e.links f.links l [] g.links (omega arith) ∙ ap (λ x. get_or x l []) links ∙ get_or_push d.links r [] l (sym at), lt-ltb l (length f.links) (omega arith))
+reader_fits : (k : ℕ) (x : Bool) → 1 ≤ k → k ≤ 8 → x ≡ true → ((leb 1 k && leb k 8) && x) ≡ true
+reader_fits k x l h e = and_from _ _ (and_from _ _ (le-leb 1 k l) (le-leb k 8 h)) e
 
-  module _ (d e : S) (i : ℕ) (f : Fair (v d)) where
-    pair_says : (t u : Spelled) (make : Spelled → Spelled → Spelled) (n : ℕ → ℕ → Node) (a : ℕ) (d₁ : S) (b : ℕ) (d₂ : S) → ((ts : List (Term ℕ)) → spelled (v d₂).classes (v d₂).links (decoded ts (n a b)) ≡ make (spelled (v d₂).classes (v d₂).links (get_or ts a bottom)) (spelled (v d₂).classes (v d₂).links (get_or ts b bottom))) → (ltb a (length (v d₂).nodes) ≡ true → ltb b (length (v d₂).nodes) ≡ true → sound (length (v d₂).classes) (length (v d₂).links) (length (v d₂).nodes) (n a b) ≡ true) → Says (v d) (v d₁) a t → Says (v d₁) (v d₂) b u → makes d₂ (n a b) i e → (v e).short ≡ false → Says (v d) (v e) i (make t u)
-    pair_says t u make n a d₁ b d₂ shape fits p q m s =
-        let more = front_long (v d₁).nodes (v d₂).nodes q.grew.nodes in
-        let left = term_kept (v d₁) (v d₂) a p.grew.fair q.grew (let h = p.last in omega arith) ∙ p.reads in
-        says_after (v d) (v d₁) (v e) i (make t u) p.grew
-        (says_after (v d₁) (v d₂) (v e) i (make t u) q.grew
-        (says_node (v d₂) (v e) (n a b) i (make t u) q.grew.fair (m s) (fits (lt-ltb a (length (v d₂).nodes) (let h = p.last in omega arith)) (below (v d₁) (v d₂) b u q)) (shape (trees (v d₂).nodes) ∙ ap (λ x. make x (term (v d₂) b)) left ∙ ap (make t) q.reads)))
+pub says : (t : Spelled) (d e : Contents) (i : ℕ) → Valid t → Fair d → Built Named Noded t d i e → Says d e i t
+says top d e i w f m = says_node d e Top i top f m refl refl
+says bottom d e i w f m = says_node d e Bottom i bottom f m refl refl
+says (class n) d e i w f (c, d₁, l, m) =
+    let g = grew_name d d₁ OfClass n c f l in
+    let classes : d₁.classes ≡ d.classes ++ n ∷ [] = ap (λ x. x.classes) l.1 in
+    let at = l.0 in
+    let long = ap length classes ∙ length_push d.classes n in
+    says_after g
+    (says_node d₁ e (Class c) i (class n) g.fair m (lt-ltb c (length d₁.classes) (omega arith)) (ap class (ap (λ x. get_or x c []) classes ∙ get_or_push d.classes n [] c (sym at))))
+says (neg t) d e i w f (a, d₁, b, m) = one_says neg (Not a) (λ ts. refl) (λ x. x) (says t d d₁ a w f b) m
+says (and t u) d e i (w, z) f (a, d₁, b, d₂, x, y, m) =
+    let p = says t d d₁ a w f x in pair_says and And (λ ts. refl) (λ h k. and_from _ _ h k) p (says u d₁ d₂ b z p.grew.fair y) m
+says (or t u) d e i (w, z) f (a, d₁, b, d₂, x, y, m) =
+    let p = says t d d₁ a w f x in pair_says or Or (λ ts. refl) (λ h k. and_from _ _ h k) p (says u d₁ d₂ b z p.grew.fair y) m
+says (exists r t) d e i (w, z) f (l, d₁, a, d₂, x, y, m) =
+    let g = grew_name d d₁ OfLink r l f x in link_says exists Exists (λ ts. refl) (λ h k. and_from _ _ h k) g x (says t d₁ d₂ a z g.fair y) m
+says (forall r t) d e i (w, z) f (l, d₁, a, d₂, x, y, m) =
+    let g = grew_name d d₁ OfLink r l f x in link_says forall Forall (λ ts. refl) (λ h k. and_from _ _ h k) g x (says t d₁ d₂ a z g.fair y) m
+says (may k t) d e i (lo, hi, w) f (a, d₁, b, m) =
+    one_says (may k) (May k a) (λ ts. refl) (reader_fits k (ltb a (length d₁.nodes)) lo hi) (says t d d₁ a w f b) m
+says (must k t) d e i (lo, hi, w) f (a, d₁, b, m) =
+    one_says (must k) (Must k a) (λ ts. refl) (reader_fits k (ltb a (length d₁.nodes)) lo hi) (says t d d₁ a w f b) m
 
-    link_says : (r : List ℕ) (t : Spelled) (make : List ℕ → Spelled → Spelled) (n : ℕ → ℕ → Node) (l : ℕ) (d₁ : S) (a : ℕ) (d₂ : S) → ((ts : List (Term ℕ)) → spelled (v d₂).classes (v d₂).links (decoded ts (n l a)) ≡ make (get_or (v d₂).links l []) (spelled (v d₂).classes (v d₂).links (get_or ts a bottom))) → (ltb l (length (v d₂).links) ≡ true → ltb a (length (v d₂).nodes) ≡ true → sound (length (v d₂).classes) (length (v d₂).links) (length (v d₂).nodes) (n l a) ≡ true) → (l ≡ next_name OfLink (v d)) × (v d₁ ≡ named OfLink r (v d)) → Says (v d₁) (v d₂) a t → makes d₂ (n l a) i e → (v e).short ≡ false → Says (v d) (v e) i (make r t)
-    link_says r t make n l d₁ a d₂ shape fits x q m s =
-        let (name, known) = link_name (v d) (v d₁) (v d₂) r l x q.grew in
-        says_after (v d) (v d₁) (v e) i (make r t) (grew_name (v d) (v d₁) OfLink r f x.1)
-        (says_after (v d₁) (v d₂) (v e) i (make r t) q.grew
-        (says_node (v d₂) (v e) (n l a) i (make r t) q.grew.fair (m s) (fits known (below (v d₁) (v d₂) a t q)) (shape (trees (v d₂).nodes) ∙ ap (λ y. make y (term (v d₂) a)) name ∙ ap (make r) q.reads)))
-
-    one_says : (t : Spelled) (make : Spelled → Spelled) (n : Node) (a : ℕ) (d₁ : S) → ((ts : List (Term ℕ)) → spelled (v d₁).classes (v d₁).links (decoded ts n) ≡ make (spelled (v d₁).classes (v d₁).links (get_or ts a bottom))) → (ltb a (length (v d₁).nodes) ≡ true → sound (length (v d₁).classes) (length (v d₁).links) (length (v d₁).nodes) n ≡ true) → Says (v d) (v d₁) a t → makes d₁ n i e → (v e).short ≡ false → Says (v d) (v e) i (make t)
-    one_says t make n a d₁ shape fits p m s =
-        says_after (v d) (v d₁) (v e) i (make t) p.grew
-        (says_node (v d₁) (v e) n i (make t) p.grew.fair (m s) (fits (below (v d) (v d₁) a t p)) (shape (trees (v d₁).nodes) ∙ ap make p.reads))
-
-  reader_fits : (k : ℕ) (x : Bool) → 1 ≤ k → k ≤ 8 → x ≡ true → ((leb 1 k && leb k 8) && x) ≡ true
-  reader_fits k x l h e = and_from _ _ (and_from _ _ (le-leb 1 k l) (le-leb k 8 h)) e
-
-  pub says : (t : Spelled) (d e : S) (i : ℕ) → Valid t → Fair (v d) → Built labels makes t d i e → (v e).short ≡ false → Says (v d) (v e) i t
-  says top d e i w f b s = says_node (v d) (v e) Top i top f (b s) refl refl
-  says bottom d e i w f b s = says_node (v d) (v e) Bottom i bottom f (b s) refl refl
-  says (class n) d e i w f (c, d₁, l, m) s =
-      let (at, is) = l (enough_node d₁ e (Class c) i m s) in
-      let g = grew_name (v d) (v d₁) OfClass n f is in
-      let classes : (v d₁).classes ≡ (v d).classes ++ n ∷ [] = ap (λ x. x.classes) is in
-      let long = ap length classes ∙ length_push (v d).classes n in
-      says_after (v d) (v d₁) (v e) i (class n) g
-      (says_node (v d₁) (v e) (Class c) i (class n) g.fair (m s) (lt-ltb c (length (v d₁).classes) (omega arith)) (ap class (ap (λ x. get_or x c []) classes ∙ get_or_push (v d).classes n [] c (sym at))))
-  says (neg t) d e i w f (a, d₁, b, m) s =
-      one_says d e i f t neg (Not a) a d₁ (λ ts. refl) (λ x. x) (says t d d₁ a w f b (enough_node d₁ e (Not a) i m s)) m s
-  says (and t u) d e i (w, z) f (a, d₁, b, d₂, x, y, m) s =
-      let s₂ = enough_node d₂ e (And a b) i m s in
-      let p = says t d d₁ a w f x (enough u d₁ d₂ b y s₂) in
-      pair_says d e i f t u and And a d₁ b d₂ (λ ts. refl) (λ h k. and_from _ _ h k) p (says u d₁ d₂ b z p.grew.fair y s₂) m s
-  says (or t u) d e i (w, z) f (a, d₁, b, d₂, x, y, m) s =
-      let s₂ = enough_node d₂ e (Or a b) i m s in
-      let p = says t d d₁ a w f x (enough u d₁ d₂ b y s₂) in
-      pair_says d e i f t u or Or a d₁ b d₂ (λ ts. refl) (λ h k. and_from _ _ h k) p (says u d₁ d₂ b z p.grew.fair y s₂) m s
-  says (exists r t) d e i (w, z) f (l, d₁, a, d₂, x, y, m) s =
-      let s₂ = enough_node d₂ e (Exists l a) i m s in
-      let h = x (enough t d₁ d₂ a y s₂) in
-      link_says d e i f r t exists Exists l d₁ a d₂ (λ ts. refl) (λ h k. and_from _ _ h k) h (says t d₁ d₂ a z (grew_name (v d) (v d₁) OfLink r f h.1).fair y s₂) m s
-  says (forall r t) d e i (w, z) f (l, d₁, a, d₂, x, y, m) s =
-      let s₂ = enough_node d₂ e (Forall l a) i m s in
-      let h = x (enough t d₁ d₂ a y s₂) in
-      link_says d e i f r t forall Forall l d₁ a d₂ (λ ts. refl) (λ h k. and_from _ _ h k) h (says t d₁ d₂ a z (grew_name (v d) (v d₁) OfLink r f h.1).fair y s₂) m s
-  says (may k t) d e i (lo, hi, w) f (a, d₁, b, m) s =
-      one_says d e i f t (may k) (May k a) a d₁ (λ ts. refl) (reader_fits k (ltb a (length (v d₁).nodes)) lo hi) (says t d d₁ a w f b (enough_node d₁ e (May k a) i m s)) m s
-  says (must k t) d e i (lo, hi, w) f (a, d₁, b, m) s =
-      one_says d e i f t (must k) (Must k a) a d₁ (λ ts. refl) (reader_fits k (ltb a (length (v d₁).nodes)) lo hi) (says t d d₁ a w f b (enough_node d₁ e (Must k a) i m s)) m s
+-- where memory sufficed at the end it did before, and the draft took each name and node
+pub sufficed : (t : Spelled) (d e : Draft) (i : ℕ) → Built Labels Makes t d i e → e.memory ≡ Ok tt → (d.memory ≡ Ok tt) × (Built Named Noded t (contents d.parts) i (contents e.parts))
+sufficed top d e i m s = m s
+sufficed bottom d e i m s = m s
+sufficed (class n) d e i (c, d₁, l, m) s =
+    let (s₁, made) = m s in
+    let (s₀, name) = l s₁ in (s₀, (c, contents d₁.parts, name, made))
+sufficed (neg t) d e i (a, d₁, b, m) s =
+    let (s₁, made) = m s in
+    let (s₀, part) = sufficed t d d₁ a b s₁ in (s₀, (a, contents d₁.parts, part, made))
+sufficed (and t u) d e i (a, d₁, b, d₂, x, y, m) s =
+    let (s₂, made) = m s in
+    let (s₁, right) = sufficed u d₁ d₂ b y s₂ in
+    let (s₀, left) = sufficed t d d₁ a x s₁ in (s₀, (a, contents d₁.parts, b, contents d₂.parts, left, right, made))
+sufficed (or t u) d e i (a, d₁, b, d₂, x, y, m) s =
+    let (s₂, made) = m s in
+    let (s₁, right) = sufficed u d₁ d₂ b y s₂ in
+    let (s₀, left) = sufficed t d d₁ a x s₁ in (s₀, (a, contents d₁.parts, b, contents d₂.parts, left, right, made))
+sufficed (exists r t) d e i (l, d₁, a, d₂, x, y, m) s =
+    let (s₂, made) = m s in
+    let (s₁, part) = sufficed t d₁ d₂ a y s₂ in
+    let (s₀, name) = x s₁ in (s₀, (l, contents d₁.parts, a, contents d₂.parts, name, part, made))
+sufficed (forall r t) d e i (l, d₁, a, d₂, x, y, m) s =
+    let (s₂, made) = m s in
+    let (s₁, part) = sufficed t d₁ d₂ a y s₂ in
+    let (s₀, name) = x s₁ in (s₀, (l, contents d₁.parts, a, contents d₂.parts, name, part, made))
+sufficed (may k t) d e i (a, d₁, b, m) s =
+    let (s₁, made) = m s in
+    let (s₀, part) = sufficed t d d₁ a b s₁ in (s₀, (a, contents d₁.parts, part, made))
+sufficed (must k t) d e i (a, d₁, b, m) s =
+    let (s₁, made) = m s in
+    let (s₀, part) = sufficed t d d₁ a b s₁ in (s₀, (a, contents d₁.parts, part, made))

@@ -1,5 +1,4 @@
 pub mod Buffers
 pub mod Drafted
-pub mod Drafting
 pub mod Expressed
 pub mod Writing

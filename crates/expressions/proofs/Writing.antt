@@ -1,53 +1,38 @@
 -- What is written for a node, over what is written for its parts. Assumes nothing.
-use Rattle.std.proofs.Common.{◌≡◌, ℕ, ◌+◌, ◌<◌, ◌≤◌, true, ◌&&◌, ltb, leb, List, [], ◌∷◌, ◌++◌, map, length, get_or, ap, ◌∙◌, subst, zero-add}
+use Rattle.std.proofs.Common.{◌≡◌, ℕ, ◌<◌, true, ◌&&◌, leb, List, map, length, get_or, vec_items, sym, ap, ◌∙◌, subst, zero-add}
+use Rattle.std.proofs.lemmas.List.{get_or_default}
 use Rattle.std.proofs.lemmas.Bool.{and_parts, ltb-true, leb-true}
-use Rattle.terms.specs.Nodes.{name_bytes, sound, ordered, decoded, trees, tree, spelled, term_at}
-use Rattle.terms.specs.Term.{written}
-use Rattle.names.specs.declared.named.Name.{Name}
+use Rattle.terms.specs.Nodes.{name_bytes, sound, decoded, trees, tree, spelled}
+use Rattle.terms.specs.Term.{Term, written}
+use Rattle.expressions.specs.Parts.{Spells}
+use Rattle.expressions.specs.declared.kept.Expression.{Expression}
+use Rattle.expressions.specs.declared.parts.Parts.{Parts}
 use Rattle.terms.specs.declared.nodes.Node.{Node}
 use Rattle.terms.specs.declared.nodes.Node.TheVariants.{Top, Bottom, Class, Not, And, Or, Exists, Forall, May, Must}
 use Rattle.terms.proofs.Trees.{tree_at, ordered_at}
 
-module _ (cs ls : List Name) (ns : List Node) where
-  abbrev text : ℕ → List ℕ
-  text i = written (term_at cs ls ns i)
+module _ (p : Parts) where
+  abbrev word : Term ℕ → List ℕ
+  word t = written (spelled (map name_bytes (vec_items p.classes)) (map name_bytes (vec_items p.links)) t)
 
-  abbrev link : ℕ → List ℕ
-  link l = get_or (map name_bytes ls) l []
+  spells_node : (i : ℕ) (n : Node) → sound (length (vec_items p.classes)) (length (vec_items p.links)) i n ≡ true → tree (vec_items p.nodes) i ≡ decoded (trees (vec_items p.nodes)) n → Spells p i n
+  spells_node i Top s e = ap word e
+  spells_node i Bottom s e = ap word e
+  spells_node i (Class c) s e = (ltb-true _ _ s, ap word e)
+  spells_node i (Not a) s e = (ltb-true _ _ s, ap word e)
+  spells_node i (And a b) s e = let q = and_parts _ _ s in (ltb-true _ _ q.0, ltb-true _ _ q.1, ap word e)
+  spells_node i (Or a b) s e = let q = and_parts _ _ s in (ltb-true _ _ q.0, ltb-true _ _ q.1, ap word e)
+  spells_node i (Exists l a) s e = let q = and_parts _ _ s in (ltb-true _ _ q.0, ltb-true _ _ q.1, ap word e)
+  spells_node i (Forall l a) s e = let q = and_parts _ _ s in (ltb-true _ _ q.0, ltb-true _ _ q.1, ap word e)
+  spells_node i (May k a) s e = let q = and_parts (leb 1 k && leb k 8) _ s in (leb-true _ _ (and_parts (leb 1 k) _ q.0).1, ltb-true _ _ q.1, ap word e)
+  spells_node i (Must k a) s e = let q = and_parts (leb 1 k && leb k 8) _ s in (leb-true _ _ (and_parts (leb 1 k) _ q.0).1, ltb-true _ _ q.1, ap word e)
 
-  -- by the node at i
-  abbrev pub NodeText : ℕ → Node → Type 0
-  NodeText i Top = text i ≡ 42 ∷ []
-  NodeText i Bottom = text i ≡ 33 ∷ []
-  NodeText i (Class c) = (c < length cs) × (text i ≡ get_or (map name_bytes cs) c [])
-  NodeText i (Not a) = (a < i) × (text i ≡ 45 ∷ 32 ∷ text a)
-  NodeText i (And a b) = (a < i) × (b < i) × (text i ≡ 38 ∷ 32 ∷ (text a ++ 32 ∷ text b))
-  NodeText i (Or a b) = (a < i) × (b < i) × (text i ≡ 124 ∷ 32 ∷ (text a ++ 32 ∷ text b))
-  NodeText i (Exists l a) = (l < length ls) × (a < i) × (text i ≡ 43 ∷ 32 ∷ (link l ++ 32 ∷ text a))
-  NodeText i (Forall l a) = (l < length ls) × (a < i) × (text i ≡ 61 ∷ 32 ∷ (link l ++ 32 ∷ text a))
-  NodeText i (May k a) = (k ≤ 8) × (a < i) × (text i ≡ 60 ∷ (48 + k) ∷ 32 ∷ text a)
-  NodeText i (Must k a) = (k ≤ 8) × (a < i) × (text i ≡ 91 ∷ (48 + k) ∷ 32 ∷ text a)
-
-  by_node : (i : ℕ) (n : Node) → sound (length cs) (length ls) i n ≡ true → tree ns i ≡ decoded (trees ns) n → NodeText i n
-  by_node i Top s e = ap (λ t. written (spelled (map name_bytes cs) (map name_bytes ls) t)) e
-  by_node i Bottom s e = ap (λ t. written (spelled (map name_bytes cs) (map name_bytes ls) t)) e
-  by_node i (Class c) s e =
-      (ltb-true c (length cs) s, ap (λ t. written (spelled (map name_bytes cs) (map name_bytes ls) t)) e)
-  by_node i (Not a) s e = (ltb-true a i s, ap (λ t. written (spelled (map name_bytes cs) (map name_bytes ls) t)) e)
-  by_node i (And a b) s e =
-      let q = and_parts (ltb a i) (ltb b i) s in (ltb-true a i q.0, ltb-true b i q.1, ap (λ t. written (spelled (map name_bytes cs) (map name_bytes ls) t)) e)
-  by_node i (Or a b) s e =
-      let q = and_parts (ltb a i) (ltb b i) s in (ltb-true a i q.0, ltb-true b i q.1, ap (λ t. written (spelled (map name_bytes cs) (map name_bytes ls) t)) e)
-  by_node i (Exists l a) s e =
-      let q = and_parts (ltb l (length ls)) (ltb a i) s in (ltb-true l (length ls) q.0, ltb-true a i q.1, ap (λ t. written (spelled (map name_bytes cs) (map name_bytes ls) t)) e)
-  by_node i (Forall l a) s e =
-      let q = and_parts (ltb l (length ls)) (ltb a i) s in (ltb-true l (length ls) q.0, ltb-true a i q.1, ap (λ t. written (spelled (map name_bytes cs) (map name_bytes ls) t)) e)
-  by_node i (May k a) s e =
-      let q = and_parts (leb 1 k && leb k 8) (ltb a i) s in (leb-true k 8 (and_parts (leb 1 k) (leb k 8) q.0).1, ltb-true a i q.1, ap (λ t. written (spelled (map name_bytes cs) (map name_bytes ls) t)) e)
-  by_node i (Must k a) s e =
-      let q = and_parts (leb 1 k && leb k 8) (ltb a i) s in (leb-true k 8 (and_parts (leb 1 k) (leb k 8) q.0).1, ltb-true a i q.1, ap (λ t. written (spelled (map name_bytes cs) (map name_bytes ls) t)) e)
-
-  pub node_text : (i : ℕ) (n : Node) → ordered (length cs) (length ls) 0 ns ≡ true → i < length ns → get_or ns i Bottom ≡ n → NodeText i n
-  node_text i n o l e =
-      let s = subst (λ k. sound (length cs) (length ls) k (get_or ns i Bottom) ≡ true) (zero-add i) (ordered_at (length cs) (length ls) 0 ns i o l) in
-      by_node i n (subst (λ m. sound (length cs) (length ls) i m ≡ true) e s) (tree_at (length cs) (length ls) ns i o l ∙ ap (decoded (trees ns)) e)
+-- each part of a node stands before it
+pub spells : (x : Expression) (i : ℕ) (n : Node) → i < length (vec_items x.parts.nodes) → n ≡ get_or (vec_items x.parts.nodes) i n → Spells x.parts i n
+spells x i n l is =
+    let cs = length (vec_items x.parts.classes) in
+    let ls = length (vec_items x.parts.links) in
+    let ns = vec_items x.parts.nodes in
+    let e = sym (is ∙ get_or_default ns i n Bottom l) in
+    let s = subst (λ k. sound cs ls k (get_or ns i Bottom) ≡ true) (zero-add i) (ordered_at cs ls 0 ns i x.sorted l) in
+    spells_node x.parts i n (subst (λ m. sound cs ls i m ≡ true) e s) (tree_at cs ls ns i x.sorted l ∙ ap (decoded (trees ns)) e)

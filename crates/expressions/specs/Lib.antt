@@ -1,3 +1,4 @@
 pub mod Draft
 pub mod Expression
-pub mod Spelling
+pub mod Parts
+pub mod Writer

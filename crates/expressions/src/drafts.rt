@@ -1,62 +1,58 @@
-ghost use Rattle.std.specs.Prelude.{◌≡◌, false, []};
-ghost use Rattle.expressions.specs.Draft.{Labels, Makes, contents};
+ghost use Rattle.std.specs.Prelude.{◌≡◌, [], ◌∷◌, ◌++◌, length, Ok};
+ghost use Rattle.expressions.specs.Draft.{Labels, Makes};
 
+use crate::parts::Parts;
 use names::Name;
-use std::alloc::Global;
+use std::alloc::{AllocError, Global};
 use terms::{Builder, Node, Sort};
 
-// A term's names and nodes while it is read, each occurrence with a number of its own, so that reading is linear.
+// A term's parts while it is read, each occurrence of a name with a number of its own, so that reading is linear.
 #[derive(Drop)]
 pub(crate) struct Draft {
-    pub(crate) classes: Vec<Name>,
-    pub(crate) links: Vec<Name>,
-    pub(crate) nodes: Vec<Node>,
-    // memory was wanting
-    pub(crate) short: bool,
+    pub(crate) parts: Parts,
+    // whether there was memory for all of them
+    pub(crate) memory: Result<(), AllocError>,
 }
 
 impl Draft {
     pub(crate) fn new(heap: Global) -> Draft
-        ensures { (result.classes.items ≡ []) × (result.links.items ≡ []) × (result.nodes.items ≡ []) × (result.short ≡ false) }
+        ensures { (result.parts.classes.items ≡ []) × (result.parts.links.items ≡ []) × (result.parts.nodes.items ≡ []) × (result.memory ≡ Ok tt) }
     {
         Draft {
-            classes: Vec::new(heap),
-            links: Vec::new(heap),
-            nodes: Vec::new(heap),
-            short: false,
+            parts: Parts {
+                classes: Vec::new(heap),
+                links: Vec::new(heap),
+                nodes: Vec::new(heap),
+            },
+            memory: Ok(()),
         }
     }
 }
 
-impl Builder for Draft {
-    ghost labels = { λ d k w i e. Labels (contents d) k w i (contents e) };
+// Puts an item behind the others and answers its number; a want of memory is remembered.
+fn keep<T: Copy>(items: &mut Vec<T>, item: T, memory: &mut Result<(), AllocError>) -> usize
+    ensures { memory.new ≡ Ok tt → (memory.old ≡ Ok tt) × (result ≡ length items.old.items) × (items.new.items ≡ items.old.items ++ item ∷ []) }
+{
+    let number = items.len();
+    if let Err(failed) = items.push(item) {
+        *memory = Err(failed.into());
+    }
+    number
+}
 
-    ghost makes = { λ d n i e. Makes (contents d) n i (contents e) };
+impl Builder for Draft {
+    ghost labels = { Labels };
+
+    ghost makes = { Makes };
 
     fn label(&mut self, sort: Sort, name: Name) -> usize {
         match sort {
-            Sort::OfClass => {
-                let number = self.classes.len();
-                if self.classes.push(name).is_err() {
-                    self.short = true;
-                }
-                number
-            }
-            Sort::OfLink => {
-                let number = self.links.len();
-                if self.links.push(name).is_err() {
-                    self.short = true;
-                }
-                number
-            }
+            Sort::OfClass => keep(&mut self.parts.classes, name, &mut self.memory),
+            Sort::OfLink => keep(&mut self.parts.links, name, &mut self.memory),
         }
     }
 
     fn node(&mut self, node: Node) -> usize {
-        let number = self.nodes.len();
-        if self.nodes.push(node).is_err() {
-            self.short = true;
-        }
-        number
+        keep(&mut self.parts.nodes, node, &mut self.memory)
     }
 }

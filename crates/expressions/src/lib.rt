@@ -2,9 +2,8 @@
 #![tactic(auto)]
 
 mod drafts;
-mod expressing;
 mod kept;
-mod spellings;
+mod parts;
 mod writers;
 
 pub use kept::Expression;

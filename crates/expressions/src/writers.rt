@@ -1,108 +1,91 @@
-ghost use Rattle.std.specs.Prelude.{◌≡◌, ◌+◌, ◌<◌, ◌≤◌, [], ◌∷◌, ◌++◌, map, length, slice_index_or};
-ghost use Rattle.terms.specs.Nodes.{name_bytes};
-ghost use Rattle.expressions.specs.Spelling.{over, Fit, text_at};
+ghost use Rattle.std.specs.Prelude.{◌<◌, ◌++◌, length};
+ghost use Rattle.expressions.specs.Parts.{Spells, name_of, text_at};
+ghost use Rattle.expressions.specs.Writer.{Room, Added};
 
-use crate::spellings::Spelling;
-use names::Name;
+use crate::kept::Expression;
+use crate::parts::name_at;
 use terms::Node;
 
-// Puts bytes into a buffer from `at` on, and answers where they end.
-fn put(out: &mut [u8], at: usize, bytes: &[u8]) -> usize
-    requires { at + length bytes.now ≤ length out.old }
-    ensures value { result ≡ at + length bytes.now }
-    ensures after { out.new ≡ over out.old at bytes.now }
-{
-    let end = at + bytes.len();
-    out[at..end].copy_from_slice(bytes);
-    end
+// Bytes go into a buffer, each piece behind the last, from `at` on.
+#[derive(Drop)]
+pub(crate) struct Writer<'a> {
+    pub(crate) out: &'a mut [u8],
+    pub(crate) at: usize,
 }
 
-// Puts name `k` of a table.
-fn put_name(out: &mut [u8], at: usize, names: &[Name], k: usize) -> usize
-    requires known { k < length names.now }
-    requires room { at + length (slice_index_or (map name_bytes names.now) k []) ≤ length out.old }
-    ensures value { result ≡ at + length (slice_index_or (map name_bytes names.now) k []) }
-    ensures after { out.new ≡ over out.old at (slice_index_or (map name_bytes names.now) k []) }
-{
-    put(out, at, names[k].as_slice())
-}
-
-// Writes node `i` from `at` on, and answers where it ends.
-#[cycle(write_behind_write_linked_write_node_write_pair)]
-pub(crate) fn write_node(spelling: &Spelling, i: usize, out: &mut [u8], at: usize) -> usize
-    requires fit { Fit spelling.now }
-    requires within { i < length spelling.now.nodes.now }
-    requires room { at + length (text_at spelling.now i) ≤ length out.old }
-    ensures value { result ≡ at + length (text_at spelling.now i) }
-    ensures after { out.new ≡ over out.old at (text_at spelling.now i) }
-{
-    let node = spelling.nodes[i];
-    match node {
-        Node::Bottom => put(out, at, b"!"),
-        Node::Top => put(out, at, b"*"),
-        Node::Class(c) => put_name(out, at, spelling.classes, c),
-        Node::Not(a) => write_behind(spelling, b"- ", a, out, at),
-        Node::And(a, b) => write_pair(spelling, b"& ", a, b, out, at),
-        Node::Or(a, b) => write_pair(spelling, b"| ", a, b, out, at),
-        Node::Exists(l, a) => write_linked(spelling, b"+ ", l, a, out, at),
-        Node::Forall(l, a) => write_linked(spelling, b"= ", l, a, out, at),
-        Node::May(reader, a) => write_behind(spelling, &[b'<', b'0' + reader, b' '], a, out, at),
-        Node::Must(reader, a) => write_behind(spelling, &[b'[', b'0' + reader, b' '], a, out, at),
+impl<'a> Writer<'a> {
+    pub(crate) fn put(&mut self, bytes: &[u8])
+        requires { Room self.old bytes.now }
+        ensures { Added self.old bytes.now self.new }
+    {
+        let end = self.at + bytes.len();
+        self.out[self.at..end].copy_from_slice(bytes);
+        self.at = end;
     }
 }
 
-// Writes node `a` behind the bytes of `head`.
-#[cycle(write_behind_write_linked_write_node_write_pair)]
-fn write_behind(spelling: &Spelling, head: &[u8], a: usize, out: &mut [u8], at: usize) -> usize
-    requires fit { Fit spelling.now }
-    requires within { a < length spelling.now.nodes.now }
-    requires room { at + length (head.now ++ text_at spelling.now a) ≤ length out.old }
-    ensures value { result ≡ at + length (head.now ++ text_at spelling.now a) }
-    ensures after { out.new ≡ over out.old at (head.now ++ text_at spelling.now a) }
-{
-    let at = put(out, at, head);
-    write_node(spelling, a, out, at)
-}
+#[tactic(auto, using(crate::proofs::Buffers::rooms))]
+impl Expression {
+    // The node at place `i`.
+    #[tactic(auto, using(crate::proofs::Writing::spells))]
+    fn node(&self, i: usize) -> Node
+        requires { i < length self.now.parts.nodes.items }
+        ensures { Spells self.now.parts i result }
+    {
+        self.parts.nodes[i]
+    }
 
-// Writes `head`, node `a`, a space and node `b`.
-#[cycle(write_behind_write_linked_write_node_write_pair)]
-fn write_pair(
-    spelling: &Spelling,
-    head: &[u8],
-    a: usize,
-    b: usize,
-    out: &mut [u8],
-    at: usize,
-) -> usize
-    requires fit { Fit spelling.now }
-    requires left { a < length spelling.now.nodes.now }
-    requires right { b < length spelling.now.nodes.now }
-    requires room { at + length ((head.now ++ text_at spelling.now a) ++ 32 ∷ text_at spelling.now b) ≤ length out.old }
-    ensures value { result ≡ at + length ((head.now ++ text_at spelling.now a) ++ 32 ∷ text_at spelling.now b) }
-    ensures after { out.new ≡ over out.old at ((head.now ++ text_at spelling.now a) ++ 32 ∷ text_at spelling.now b) }
-{
-    let at = write_behind(spelling, head, a, out, at);
-    write_behind(spelling, b" ", b, out, at)
-}
+    // Puts `head` and the name of link `l`.
+    fn put_link(&self, head: &[u8], l: usize, writer: &mut Writer)
+        requires known { l < length self.now.parts.links.items }
+        requires room { Room writer.old (head.now ++ name_of self.now.parts.links.items l) }
+        ensures { Added writer.old (head.now ++ name_of self.now.parts.links.items l) writer.new }
+    {
+        writer.put(head);
+        writer.put(name_at(&self.parts.links, l));
+    }
 
-// Writes `head`, the name of link `l`, a space and node `a`.
-#[cycle(write_behind_write_linked_write_node_write_pair)]
-fn write_linked(
-    spelling: &Spelling,
-    head: &[u8],
-    l: usize,
-    a: usize,
-    out: &mut [u8],
-    at: usize,
-) -> usize
-    requires fit { Fit spelling.now }
-    requires link { l < length spelling.now.links.now }
-    requires within { a < length spelling.now.nodes.now }
-    requires room { at + length ((head.now ++ slice_index_or (map name_bytes spelling.now.links.now) l []) ++ 32 ∷ text_at spelling.now a) ≤ length out.old }
-    ensures value { result ≡ at + length ((head.now ++ slice_index_or (map name_bytes spelling.now.links.now) l []) ++ 32 ∷ text_at spelling.now a) }
-    ensures after { out.new ≡ over out.old at ((head.now ++ slice_index_or (map name_bytes spelling.now.links.now) l []) ++ 32 ∷ text_at spelling.now a) }
-{
-    let at = put(out, at, head);
-    let at = put_name(out, at, spelling.links, l);
-    write_behind(spelling, b" ", a, out, at)
+    // Writes node `i`.
+    #[cycle(write_behind_write_node)]
+    pub(crate) fn write_node(&self, i: usize, writer: &mut Writer)
+        requires within { i < length self.now.parts.nodes.items }
+        requires room { Room writer.old (text_at self.now.parts i) }
+        ensures { Added writer.old (text_at self.now.parts i) writer.new }
+    {
+        match self.node(i) {
+            Node::Bottom => writer.put(b"!"),
+            Node::Top => writer.put(b"*"),
+            Node::Class(c) => writer.put(name_at(&self.parts.classes, c)),
+            Node::Not(a) => self.write_behind(b"- ", a, writer),
+            Node::And(a, b) => {
+                self.write_behind(b"& ", a, writer);
+                self.write_behind(b" ", b, writer);
+            }
+            Node::Or(a, b) => {
+                self.write_behind(b"| ", a, writer);
+                self.write_behind(b" ", b, writer);
+            }
+            Node::Exists(l, a) => {
+                self.put_link(b"+ ", l, writer);
+                self.write_behind(b" ", a, writer);
+            }
+            Node::Forall(l, a) => {
+                self.put_link(b"= ", l, writer);
+                self.write_behind(b" ", a, writer);
+            }
+            Node::May(reader, a) => self.write_behind(&[b'<', b'0' + reader, b' '], a, writer),
+            Node::Must(reader, a) => self.write_behind(&[b'[', b'0' + reader, b' '], a, writer),
+        }
+    }
+
+    // Writes node `i` behind the bytes of `head`.
+    #[cycle(write_behind_write_node)]
+    fn write_behind(&self, head: &[u8], i: usize, writer: &mut Writer)
+        requires within { i < length self.now.parts.nodes.items }
+        requires room { Room writer.old (head.now ++ text_at self.now.parts i) }
+        ensures { Added writer.old (head.now ++ text_at self.now.parts i) writer.new }
+    {
+        writer.put(head);
+        self.write_node(i, writer);
+    }
 }

@@ -1,8 +1,10 @@
 -- A fault of a name, of depth, or of a word left over stands whatever follows its place. Assumes nothing.
 use Rattle.std.proofs.Common.{◌≡◌, ℕ, zero, suc, ◌+◌, ◌-◌, ◌<◌, ◌≤◌, false, eqb, ◌⊎◌, List, [], ◌∷◌, ◌++◌, length, take, drop, Some, None, Ok, Err, Option, Result, sym, refl, ap, ◌∙◌, subst, inl, inr, ⊎_elim, append_assoc, arith, take-append-drop}
+use Rattle.std.proofs.Math.Seq.{take-append-add, drop-append-add}
 use Rattle.std.proofs.lemmas.List.{length-append, length-drop, length-take-le}
 use Rattle.std.proofs.lemmas.Bool.{cond-true, cond-false, cases_Bool, eqb-true}
-use Rattle.names.specs.Name.{fits, flaw}
+use Rattle.std.proofs.lemmas.Bool.Decides.{nat_tests}
+use Rattle.names.specs.Name.{flaw}
 use Rattle.names.specs.Refusal.{place_of}
 use Rattle.names.specs.declared.refusals.Refusal.{Refusal}
 use Rattle.names.specs.declared.refusals.Refusal.TheVariants.{BadName, LeftOver, StraySpace, TooDeep}
@@ -39,19 +41,11 @@ across_length : (y a : List ℕ) → Solid y → word_length (y ++ a) ≡ length
 across_length [] a s = omega arith
 across_length (b ∷ y) a (n, s) = cond-false (eqb b 32) 0 (suc (word_length (y ++ a))) n ∙ (let h = across_length y a s in omega arith)
 
-take_across : (y a : List ℕ) (n : ℕ) → take (length y + n) (y ++ a) ≡ y ++ take n a
-take_across [] a n = let z : 0 + n ≡ n = omega arith in ap (λ k. take k a) z
-take_across (b ∷ y) a n = let z : suc (length y) + n ≡ suc (length y + n) = omega arith in ap (λ k. take k (b ∷ y ++ a)) z ∙ ap (λ x. b ∷ x) (take_across y a n)
-
-drop_across : (y a : List ℕ) (n : ℕ) → drop (length y + n) (y ++ a) ≡ drop n a
-drop_across [] a n = let z : 0 + n ≡ n = omega arith in ap (λ k. drop k a) z
-drop_across (b ∷ y) a n = let z : suc (length y) + n ≡ suc (length y + n) = omega arith in ap (λ k. drop k (b ∷ y ++ a)) z ∙ drop_across y a n
-
 first_across : (y a : List ℕ) → Solid y → first_word (y ++ a) ≡ y ++ first_word a
-first_across y a s = ap (λ n. take n (y ++ a)) (across_length y a s) ∙ take_across y a (word_length a)
+first_across y a s = ap (λ n. take n (y ++ a)) (across_length y a s) ∙ take-append-add y a (word_length a)
 
 after_across : (y a : List ℕ) → Solid y → after_word (y ++ a) ≡ after_word a
-after_across y a s = ap (λ n. drop n (y ++ a)) (across_length y a s) ∙ drop_across y a (word_length a)
+after_across y a s = ap (λ n. drop n (y ++ a)) (across_length y a s) ∙ drop-append-add y a (word_length a)
 
 after_short : (s : List ℕ) → length (after_word s) ≤ length s
 after_short s = let l = length-drop (word_length s) s in omega arith
@@ -61,13 +55,9 @@ flaw_across : (i : ℕ) (y a u : List ℕ) (p : ℕ) → flaw i (y ++ a) ≡ Som
 flaw_across i [] a u p e l = absurd (late i a p e (omega arith))
   where
     late : (i : ℕ) (a : List ℕ) (p : ℕ) → flaw i a ≡ Some p → p < i → ⊥
-    late i [] p e l = ⊎_elim (λ t. let h = sym (cond-true _ _ _ t) ∙ e in let z = eqb-true i 0 t in omega arith) (λ f. let h = sym (cond-false _ _ _ f) ∙ e in let z : ◌≡◌ {A = ℕ} 0 1 = cc in omega arith) (cases_Bool (eqb i 0))
-    late i (b ∷ a) p e l = ⊎_elim (λ t. late (suc i) a p (sym (cond-true _ _ _ t) ∙ e) (omega arith)) (λ f. let h = sym (cond-false _ _ _ f) ∙ e in let same : i ≡ p = cc in omega arith) (cases_Bool (fits i b))
-flaw_across i (b ∷ y) a u p e l =
-    ⊎_elim
-    (λ t. cond-true _ _ _ t ∙ flaw_across (suc i) y a u p (sym (cond-true _ _ _ t) ∙ e) (omega arith))
-    (λ f. cond-false _ _ _ f ∙ sym (cond-false _ _ _ f) ∙ e)
-    (cases_Bool (fits i b))
+    late i [] p e l = grind (arith, nat_tests)
+    late i (b ∷ a) p e l = grind (arith, nat_tests, late (suc i) a p)
+flaw_across i (b ∷ y) a u p e l = grind (arith, nat_tests, flaw_across (suc i) y a u p)
 
 -- s is read with a behind the front of q bytes, and again with u there
 module _ (q : ℕ) (a u : List ℕ) where
@@ -296,7 +286,7 @@ module _ (q : ℕ) (a u : List ℕ) where
   ended_local t [] e f l h = absurd (late a e f l h)
     where
       late : (k : List ℕ) (e : Refusal) → Firm e → place_of e < q → ended (q + length k) t k ≡ Err e → ⊥
-      late [] e f l h = let z : ◌≡◌ {A = ℕ} 0 1 = cc in omega arith
+      late [] e f l h = cc
       late (s ∷ []) e f l h = let is : StraySpace (place (q + 1) (s ∷ [])) ≡ e = cc in subst Firm (sym is) f
       late (s ∷ b ∷ bs) e f l h =
           ⊎_elim
@@ -319,7 +309,7 @@ module _ (q : ℕ) (a u : List ℕ) where
       (cases_Bool (eqb c 32))
 
   ended_beyond : (t : Spelled) (k : List ℕ) (e : Refusal) → length k ≤ length a → Firm e → place_of e < q → ended T t k ≡ Err e → ⊥
-  ended_beyond t [] e m f l h = let z : ◌≡◌ {A = ℕ} 0 1 = cc in omega arith
+  ended_beyond t [] e m f l h = cc
   ended_beyond t (s ∷ []) e m f l h = let is : StraySpace (place T (s ∷ [])) ≡ e = cc in subst Firm (sym is) f
   ended_beyond t (s ∷ b ∷ bs) e m f l h =
       ⊎_elim

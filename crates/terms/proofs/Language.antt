@@ -1,7 +1,7 @@
 -- What is read is what is written: soundness and completeness of reading. Assumes nothing.
-use Rattle.std.proofs.Common.{◌≡◌, ℕ, zero, suc, ◌+◌, ◌<◌, ◌≤◌, max, true, false, eqb, List, [], ◌∷◌, ◌++◌, length, get_or, take, drop, Some, None, Ok, Err, Option, Result, sym, refl, ap, ◌∙◌, subst, ⊎_elim, append_assoc, arith, take-append-drop}
+use Rattle.std.proofs.Common.{◌≡◌, ℕ, zero, suc, ◌+◌, ◌<◌, ◌≤◌, max, true, false, eqb, List, [], ◌∷◌, ◌++◌, length, get_or, take, drop, Some, None, Ok, Err, Option, Result, sym, refl, ap, ◌∙◌, subst, append_assoc, arith, take-append-drop}
 use Rattle.std.proofs.lemmas.List.{append-nil, take_at, drop_at}
-use Rattle.std.proofs.lemmas.Bool.{cond-true, cond-false, cases_Bool, eqb-true, ne_eqb, eq-eqb}
+use Rattle.std.proofs.lemmas.Bool.{cond-true, cond-false, ne_eqb, eq-eqb}
 use Rattle.std.proofs.lemmas.Bool.Decides.{nat_tests}
 use Rattle.terms.specs.Forms.{joins, quantifies, modalizes}
 use Rattle.names.specs.Name.{follows, flaw, Legal}
@@ -28,17 +28,13 @@ Ended (b ∷ bs) = b ≡ 32
 -- if two steps gave a result, so did the first
 after_inv : {X Y : Type 0} (r : Result X Refusal) (f : X → Result Y Refusal) (y : Y) → after r f ≡ Ok y → (x : X) × (r ≡ Ok x) × (f x ≡ Ok y)
 after_inv (Ok x) f y e = (x, refl, e)
-after_inv (Err e') f y e = let z : ◌≡◌ {A = ℕ} 0 1 = cc in absurd (omega arith)
+after_inv (Err e') f y e = cc
 
 -- words
 
 pub after_ended : (s : List ℕ) → Ended (after_word s)
 after_ended [] = tt
-after_ended (b ∷ bs) =
-    ⊎_elim
-    (λ t. subst (λ n. Ended (drop n (b ∷ bs))) (sym (cond-true (eqb b 32) 0 (suc (word_length bs)) t)) (eqb-true b 32 t))
-    (λ f. subst (λ n. Ended (drop n (b ∷ bs))) (sym (cond-false (eqb b 32) 0 (suc (word_length bs)) f)) (after_ended bs))
-    (cases_Bool (eqb b 32))
+after_ended (b ∷ bs) = grind (arith, nat_tests, after_ended bs)
 
 pub word_whole : (s : List ℕ) → s ≡ first_word s ++ after_word s
 word_whole s = sym (take-append-drop (word_length s) s)
@@ -72,13 +68,9 @@ legal_solid w n = all_solid w n.rest
 -- the space between two words
 
 gap_inv : (total : ℕ) (b k : List ℕ) → Ended b → gap total b ≡ Ok k → b ≡ 32 ∷ k
-gap_inv total [] k e g = let z : ◌≡◌ {A = ℕ} 0 1 = cc in absurd (omega arith)
-gap_inv total (s ∷ []) k e g = let z : ◌≡◌ {A = ℕ} 0 1 = cc in absurd (omega arith)
-gap_inv total (s ∷ b ∷ bs) k e g =
-    ⊎_elim
-    (λ t. let h = sym (cond-true _ _ _ t) ∙ g in let z : ◌≡◌ {A = ℕ} 0 1 = cc in absurd (omega arith))
-    (λ f. let h = sym (cond-false _ _ _ f) ∙ g in cc)
-    (cases_Bool (eqb b 32))
+gap_inv total [] k e g = cc
+gap_inv total (s ∷ []) k e g = cc
+gap_inv total (s ∷ b ∷ bs) k e g = grind (arith, nat_tests)
 
 -- s begins with a byte that is no space
 abbrev Starts : List ℕ → Type 0
@@ -99,7 +91,7 @@ pub record Sound (n : ℕ) (rest : List ℕ) (t : Spelled) (k : List ℕ) : Type
 
 named_inv : (p : ℕ) (w n : List ℕ) (r : Option ℕ) → named p w r ≡ Ok n → (n ≡ w) × (r ≡ None)
 named_inv p w n None e = (cc, refl)
-named_inv p w n (Some i) e = let z : ◌≡◌ {A = ℕ} 0 1 = cc in absurd (omega arith)
+named_inv p w n (Some i) e = cc
 
 join_text : (j : Join) (t u : Spelled) → written (joins j t u) ≡ symbol (Joining j) ∷ 32 ∷ (written t ++ 32 ∷ written u)
 join_text And t u = refl
@@ -218,7 +210,7 @@ module _ (total n : ℕ) (ih : (rest : List ℕ) (t : Spelled) (k : List ℕ) �
       })
 
   word_sound : (m : Option Word) (rest : List ℕ) (t : Spelled) (k : List ℕ) → meant (first_word rest) ≡ m → parts total (parse total n) rest m ≡ Ok (t, k) → Sound (suc n) rest t k
-  word_sound None rest t k e p = let z : ◌≡◌ {A = ℕ} 0 1 = cc in absurd (omega arith)
+  word_sound None rest t k e p = cc
   word_sound (Some (name w)) rest t k e p =
       let (x, q, o) = after_inv (named (place total rest) w (flaw 0 w)) (λ y. Ok (class y, after_word rest)) (t, k) p in
       let (is, none) = named_inv (place total rest) w x (flaw 0 w) q in
@@ -244,7 +236,7 @@ module _ (total n : ℕ) (ih : (rest : List ℕ) (t : Spelled) (k : List ℕ) �
 
 pub parse_sound : (total n : ℕ) (rest : List ℕ) (t : Spelled) (k : List ℕ) → parse total n rest ≡ Ok (t, k) → Sound n rest t k
 unfolding parse
-parse_sound total zero rest t k e = let z : ◌≡◌ {A = ℕ} 0 1 = cc in absurd (omega arith)
+parse_sound total zero rest t k e = cc
 parse_sound total (suc n) rest t k e = word_sound total n (parse_sound total n) (meant (first_word rest)) rest t k refl e
 
 -- completeness
@@ -368,12 +360,8 @@ parse_complete (must i t) total (suc n) k (l, h, v) d e =
 -- the whole text
 
 begun_inv : (s k : List ℕ) → begun s ≡ Ok k → s ≡ k
-begun_inv [] k e = let z : ◌≡◌ {A = ℕ} 0 1 = cc in absurd (omega arith)
-begun_inv (b ∷ bs) k e =
-    ⊎_elim
-    (λ t. let h = sym (cond-true _ _ _ t) ∙ e in let z : ◌≡◌ {A = ℕ} 0 1 = cc in absurd (omega arith))
-    (λ f. same_ok (sym (cond-false _ _ _ f) ∙ e))
-    (cases_Bool (eqb b 32))
+begun_inv [] k e = cc
+begun_inv (b ∷ bs) k e = grind (arith, nat_tests)
 
 begun_starts : (s : List ℕ) → Starts s → begun s ≡ Ok s
 begun_starts [] n = absurd n
@@ -381,12 +369,8 @@ begun_starts (b ∷ bs) n = cond-false (eqb b 32) _ (Ok (b ∷ bs)) n
 
 ended_inv : (total : ℕ) (t u : Spelled) (k : List ℕ) → ended total t k ≡ Ok u → (t ≡ u) × (k ≡ [])
 ended_inv total t u [] e = (same_ok e, refl)
-ended_inv total t u (s ∷ []) e = let z : ◌≡◌ {A = ℕ} 0 1 = cc in absurd (omega arith)
-ended_inv total t u (s ∷ b ∷ bs) e =
-    ⊎_elim
-    (λ y. let h = sym (cond-true _ _ _ y) ∙ e in let z : ◌≡◌ {A = ℕ} 0 1 = cc in absurd (omega arith))
-    (λ f. let h = sym (cond-false _ _ _ f) ∙ e in let z : ◌≡◌ {A = ℕ} 0 1 = cc in absurd (omega arith))
-    (cases_Bool (eqb b 32))
+ended_inv total t u (s ∷ []) e = cc
+ended_inv total t u (s ∷ b ∷ bs) e = grind (arith, nat_tests)
 
 pub reading_sound : (s : List ℕ) (t : Spelled) → reading s ≡ Ok t → Readable t × (written t ≡ s)
 reading_sound s t e =

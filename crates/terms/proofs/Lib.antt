@@ -1,7 +1,6 @@
 pub mod Firm
 pub mod Language
 pub mod Places
-pub mod Spaces
 pub mod Steps
 pub mod Symbols
 pub mod Trees

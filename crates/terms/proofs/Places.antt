@@ -1,7 +1,8 @@
 -- How far from the start the place of a refusal can be. Assumes nothing.
-use Rattle.std.proofs.Common.{◌≡◌, ℕ, zero, suc, ◌+◌, ◌<◌, ◌≤◌, true, eqb, ltb, List, [], ◌∷◌, length, Some, None, Ok, Err, Option, Result, sym, ◌∙◌, subst, ⊎_elim, arith}
-use Rattle.std.proofs.lemmas.Bool.{cond-false, cond_both, cases_eq, ne_eqb, and_parts, ltb-true}
-use Rattle.names.specs.Name.{follows, fits, flaw}
+use Rattle.std.proofs.Common.{◌≡◌, ℕ, zero, suc, ◌+◌, ◌<◌, ◌≤◌, true, eqb, List, [], ◌∷◌, length, Some, None, Ok, Err, Option, Result, arith}
+use Rattle.std.proofs.lemmas.Bool.{cond_both}
+use Rattle.std.proofs.lemmas.Bool.Decides.{nat_tests}
+use Rattle.names.specs.Name.{fits, flaw}
 use Rattle.names.specs.Refusal.{place_of}
 use Rattle.names.specs.declared.refusals.Refusal.{Refusal}
 use Rattle.terms.specs.Forms.{joins, quantifies, modalizes}
@@ -17,11 +18,7 @@ Early None = Unit {0}
 Early (Some i) = i ≤ 16
 
 fits_below : (i b : ℕ) → fits i b ≡ true → i < 16
-fits_below i b f =
-    ⊎_elim
-    (λ z. omega arith)
-    (λ nz. let p = and_parts (ltb i 16) (follows b) (sym (cond-false _ _ _ (ne_eqb i 0 nz)) ∙ f) in ltb-true i 16 p.0)
-    (cases_eq i 0)
+fits_below i b f = grind (arith, nat_tests)
 
 flaw_from : (i : ℕ) (w : List ℕ) → i ≤ 16 → Early (flaw i w)
 flaw_from i [] h = cond_both (eqb i 0) (Some 0) None Early (λ _. omega arith) (λ _. tt)
@@ -103,6 +100,3 @@ pub near_reading : (s : List ℕ) → Near (length s + 16) (reading s)
 near_reading s =
     near_after (length s + 16) (begun s) _ (near_begun (length s + 16) s) (λ k.
     near_after (length s + 16) (parse (length s) 32 k) _ (near_parse (length s) 32 k) (λ p. near_ended (length s) p.0 p.1))
-
-pub refused_near : (s : List ℕ) (e : Refusal) → reading s ≡ Err e → place_of e ≤ length s + 16
-refused_near s e h = subst (Near (length s + 16)) h (near_reading s)

@@ -1,6 +1,6 @@
 -- Which words are operators: the operator's bytes and no other. Assumes nothing.
 use Rattle.std.proofs.Common.{◌≡◌, ℕ, ◌+◌, ◌-◌, ◌≤◌, true, cond, ◌&&◌, eqb, leb, List, [], ◌∷◌, Some, None, Option, sym, refl, ap, ◌∙◌, subst, ⊎_elim, arith}
-use Rattle.std.proofs.lemmas.Bool.{cases_Bool, cond-true, cond-false, and_parts, and_from, leb-true, le-leb, eqb-true}
+use Rattle.std.proofs.lemmas.Bool.{cases_Bool, cond-true, cond-false, and_parts, leb-true, eqb-true}
 use Rattle.std.proofs.lemmas.Bool.Decides.{nat_tests}
 use Rattle.names.specs.Name.{opens}
 use Rattle.terms.specs.Word.{Word, operator, reader, name, Sign, bare, modal, letter, sign, completed, meant}
@@ -87,10 +87,7 @@ means_operator (Quantifying Exists) = refl
 means_operator (Quantifying Forall) = refl
 
 digit : (m : Modality) (b i : ℕ) → 1 ≤ i → i ≤ 8 → completed (modal m) b ((48 + i) ∷ []) ≡ Some (reader m i)
-digit m b i l h =
-    let back : 48 + i - 48 ≡ i = omega arith in
-    cond-true (leb 49 (48 + i) && leb (48 + i) 56) (Some (reader m (48 + i - 48))) None (and_from (leb 49 (48 + i)) (leb (48 + i) 56) (le-leb 49 (48 + i) (omega arith)) (le-leb (48 + i) 56 (omega arith)))
-    ∙ ap (λ k. Some (reader m k)) back
+digit m b i l h = grind (arith, nat_tests)
 
 pub means_reader : (m : Modality) (i : ℕ) → 1 ≤ i → i ≤ 8 → meant (modal_symbol m ∷ (48 + i) ∷ []) ≡ Some (reader m i)
 means_reader May i l h = digit May 60 i l h

@@ -1,7 +1,8 @@
 -- The trees of a table of nodes, as the table and its names grow. Assumes nothing.
-use Rattle.std.proofs.Common.{◌≡◌, ℕ, zero, suc, ◌+◌, ◌<◌, ◌≤◌, true, ◌&&◌, ltb, leb, List, [], ◌∷◌, ◌++◌, length, get_or, take, drop, sym, refl, ap, ◌∙◌, subst, ⊎_elim, append_assoc, add-zero, zero-add, arith, take-append-drop}
+use Rattle.std.proofs.Common.{◌≡◌, ℕ, zero, suc, ◌+◌, ◌<◌, ◌≤◌, true, List, [], ◌∷◌, ◌++◌, length, get_or, take, drop, sym, refl, ap, ◌∙◌, subst, ⊎_elim, append_assoc, add-zero, zero-add, arith, take-append-drop}
 use Rattle.std.proofs.lemmas.List.{drop_more, get_or_append_left, get_or_push, length_push, length-take-le}
-use Rattle.std.proofs.lemmas.Bool.{and_parts, and_from, ltb-true, lt-ltb, leb-true, cases_lt}
+use Rattle.std.proofs.lemmas.Bool.{and_parts, and_from, cases_lt}
+use Rattle.std.proofs.lemmas.Bool.Decides.{nat_tests}
 use Rattle.terms.specs.Nodes.{sound, ordered, decoded, trees_after, trees, tree, spelled}
 use Rattle.terms.specs.Term.{Term, top, bottom, class, neg, and, or, exists, forall, may, must}
 use Rattle.terms.specs.declared.nodes.Node.{Node}
@@ -48,25 +49,21 @@ trees_push ns n = after_append [] ns (n ∷ [])
 sound_more : (nc nl nc' nl' p : ℕ) → nc ≤ nc' → nl ≤ nl' → (n : Node) → sound nc nl p n ≡ true → sound nc' nl' p n ≡ true
 sound_more nc nl nc' nl' p c l Top s = refl
 sound_more nc nl nc' nl' p c l Bottom s = refl
-sound_more nc nl nc' nl' p c l (Class a) s = let h = ltb-true a nc s in lt-ltb a nc' (omega arith)
+sound_more nc nl nc' nl' p c l (Class a) s = grind (arith, nat_tests)
 sound_more nc nl nc' nl' p c l (Not a) s = s
 sound_more nc nl nc' nl' p c l (And a b) s = s
 sound_more nc nl nc' nl' p c l (Or a b) s = s
-sound_more nc nl nc' nl' p c l (Exists a b) s =
-    let q = and_parts (ltb a nl) (ltb b p) s in let h = ltb-true a nl q.0 in and_from (ltb a nl') (ltb b p) (lt-ltb a nl' (omega arith)) q.1
-sound_more nc nl nc' nl' p c l (Forall a b) s =
-    let q = and_parts (ltb a nl) (ltb b p) s in let h = ltb-true a nl q.0 in and_from (ltb a nl') (ltb b p) (lt-ltb a nl' (omega arith)) q.1
+sound_more nc nl nc' nl' p c l (Exists a b) s = grind (arith, nat_tests)
+sound_more nc nl nc' nl' p c l (Forall a b) s = grind (arith, nat_tests)
 sound_more nc nl nc' nl' p c l (May i a) s = s
 sound_more nc nl nc' nl' p c l (Must i a) s = s
 
 pub ordered_more : (nc nl nc' nl' p : ℕ) → nc ≤ nc' → nl ≤ nl' → (ns : List Node) → ordered nc nl p ns ≡ true → ordered nc' nl' p ns ≡ true
 ordered_more nc nl nc' nl' p c l [] o = refl
-ordered_more nc nl nc' nl' p c l (n ∷ ns) o =
-    let q = and_parts (sound nc nl p n) (ordered nc nl (suc p) ns) o in
-    and_from _ _ (sound_more nc nl nc' nl' p c l n q.0) (ordered_more nc nl nc' nl' (suc p) c l ns q.1)
+ordered_more nc nl nc' nl' p c l (n ∷ ns) o = grind (arith, nat_tests, sound_more nc nl nc' nl' p c l n, ordered_more nc nl nc' nl' (suc p) c l ns)
 
 pub ordered_push : (nc nl p : ℕ) (ns : List Node) (n : Node) → ordered nc nl p ns ≡ true → sound nc nl (p + length ns) n ≡ true → ordered nc nl p (ns ++ n ∷ []) ≡ true
-ordered_push nc nl p [] n o s = and_from _ _ (subst (λ k. sound nc nl k n ≡ true) (add-zero p) s) refl
+ordered_push nc nl p [] n o s = grind (arith, nat_tests)
 ordered_push nc nl p (m ∷ ns) n o s =
     let q = and_parts (sound nc nl p m) (ordered nc nl (suc p) ns) o in
     let same : p + suc (length ns) ≡ suc p + length ns = omega arith in
@@ -74,7 +71,7 @@ ordered_push nc nl p (m ∷ ns) n o s =
 
 pub ordered_at : (nc nl p : ℕ) (ns : List Node) (k : ℕ) → ordered nc nl p ns ≡ true → k < length ns → sound nc nl (p + k) (get_or ns k Bottom) ≡ true
 ordered_at nc nl p [] k o l = absurd (omega arith)
-ordered_at nc nl p (n ∷ ns) zero o l = subst (λ j. sound nc nl j n ≡ true) (sym (add-zero p)) (and_parts (sound nc nl p n) (ordered nc nl (suc p) ns) o).0
+ordered_at nc nl p (n ∷ ns) zero o l = grind (arith, nat_tests)
 ordered_at nc nl p (n ∷ ns) (suc k) o l =
     let q = and_parts (sound nc nl p n) (ordered nc nl (suc p) ns) o in
     let same : suc p + k ≡ p + suc k = omega arith in
@@ -85,13 +82,13 @@ pub decoded_same : (ts us : List (Term ℕ)) (nc nl p : ℕ) → ((k : ℕ) → 
 decoded_same ts us nc nl p h Top s = refl
 decoded_same ts us nc nl p h Bottom s = refl
 decoded_same ts us nc nl p h (Class c) s = refl
-decoded_same ts us nc nl p h (Not a) s = ap neg (h a (ltb-true a p s))
-decoded_same ts us nc nl p h (And a b) s = let q = and_parts (ltb a p) (ltb b p) s in let x = h a (ltb-true a p q.0) in let y = h b (ltb-true b p q.1) in cc
-decoded_same ts us nc nl p h (Or a b) s = let q = and_parts (ltb a p) (ltb b p) s in let x = h a (ltb-true a p q.0) in let y = h b (ltb-true b p q.1) in cc
-decoded_same ts us nc nl p h (Exists l a) s = ap (exists l) (h a (ltb-true a p (and_parts (ltb l nl) (ltb a p) s).1))
-decoded_same ts us nc nl p h (Forall l a) s = ap (forall l) (h a (ltb-true a p (and_parts (ltb l nl) (ltb a p) s).1))
-decoded_same ts us nc nl p h (May i a) s = ap (may i) (h a (ltb-true a p (and_parts (leb 1 i && leb i 8) (ltb a p) s).1))
-decoded_same ts us nc nl p h (Must i a) s = ap (must i) (h a (ltb-true a p (and_parts (leb 1 i && leb i 8) (ltb a p) s).1))
+decoded_same ts us nc nl p h (Not a) s = grind (arith, nat_tests)
+decoded_same ts us nc nl p h (And a b) s = grind (arith, nat_tests)
+decoded_same ts us nc nl p h (Or a b) s = grind (arith, nat_tests)
+decoded_same ts us nc nl p h (Exists l a) s = grind (arith, nat_tests)
+decoded_same ts us nc nl p h (Forall l a) s = grind (arith, nat_tests)
+decoded_same ts us nc nl p h (May i a) s = grind (arith, nat_tests)
+decoded_same ts us nc nl p h (Must i a) s = grind (arith, nat_tests)
 
 -- the tree of a node is over the trees of its parts
 pub tree_at : (nc nl : ℕ) (ns : List Node) (i : ℕ) → ordered nc nl 0 ns ≡ true → i < length ns → tree ns i ≡ decoded (trees ns) (get_or ns i Bottom)
@@ -126,20 +123,17 @@ InRange nc nl (must i t) = ((1 ≤ i) × (i ≤ 8)) × InRange nc nl t
 abbrev Ranged : ℕ → ℕ → List (Term ℕ) → Type 0
 Ranged nc nl ts = (k : ℕ) → k < length ts → InRange nc nl (get_or ts k bottom)
 
-reader_range : (i : ℕ) → (leb 1 i && leb i 8) ≡ true → (1 ≤ i) × (i ≤ 8)
-reader_range i e = let q = and_parts (leb 1 i) (leb i 8) e in (leb-true 1 i q.0, leb-true i 8 q.1)
-
 decoded_range : (nc nl : ℕ) (ts : List (Term ℕ)) → Ranged nc nl ts → (n : Node) → sound nc nl (length ts) n ≡ true → InRange nc nl (decoded ts n)
 decoded_range nc nl ts r Top s = tt
 decoded_range nc nl ts r Bottom s = tt
-decoded_range nc nl ts r (Class c) s = ltb-true c nc s
-decoded_range nc nl ts r (Not a) s = r a (ltb-true a (length ts) s)
-decoded_range nc nl ts r (And a b) s = let q = and_parts (ltb a (length ts)) (ltb b (length ts)) s in (r a (ltb-true a (length ts) q.0), r b (ltb-true b (length ts) q.1))
-decoded_range nc nl ts r (Or a b) s = let q = and_parts (ltb a (length ts)) (ltb b (length ts)) s in (r a (ltb-true a (length ts) q.0), r b (ltb-true b (length ts) q.1))
-decoded_range nc nl ts r (Exists l a) s = let q = and_parts (ltb l nl) (ltb a (length ts)) s in (ltb-true l nl q.0, r a (ltb-true a (length ts) q.1))
-decoded_range nc nl ts r (Forall l a) s = let q = and_parts (ltb l nl) (ltb a (length ts)) s in (ltb-true l nl q.0, r a (ltb-true a (length ts) q.1))
-decoded_range nc nl ts r (May i a) s = let q = and_parts (leb 1 i && leb i 8) (ltb a (length ts)) s in (reader_range i q.0, r a (ltb-true a (length ts) q.1))
-decoded_range nc nl ts r (Must i a) s = let q = and_parts (leb 1 i && leb i 8) (ltb a (length ts)) s in (reader_range i q.0, r a (ltb-true a (length ts) q.1))
+decoded_range nc nl ts r (Class c) s = grind (arith, nat_tests)
+decoded_range nc nl ts r (Not a) s = grind (arith, nat_tests)
+decoded_range nc nl ts r (And a b) s = grind (arith, nat_tests)
+decoded_range nc nl ts r (Or a b) s = grind (arith, nat_tests)
+decoded_range nc nl ts r (Exists l a) s = grind (arith, nat_tests)
+decoded_range nc nl ts r (Forall l a) s = grind (arith, nat_tests)
+decoded_range nc nl ts r (May i a) s = grind (arith, nat_tests)
+decoded_range nc nl ts r (Must i a) s = grind (arith, nat_tests)
 
 ranged_push : (nc nl : ℕ) (ts : List (Term ℕ)) (t : Term ℕ) → Ranged nc nl ts → InRange nc nl t → Ranged nc nl (ts ++ t ∷ [])
 ranged_push nc nl ts t r h k l =

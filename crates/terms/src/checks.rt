@@ -29,7 +29,6 @@ impl Builder for Idle {
 pub fn check(text: &[u8]) -> Result<(), Refusal>
     ensures { MatchResult result (λ _. (t : Spelled) × IsRead text.now t) (λ e. IsRefused text.now e) }
 {
-    let mut idle = Idle;
-    read(&mut idle, text)?;
+    read(&mut Idle, text)?;
     Ok(())
 }

@@ -3,11 +3,10 @@
 
 mod builders;
 mod checks;
-mod gaps;
 mod kinds;
 mod nodes;
-mod parts;
 mod readers;
+mod rests;
 mod texts;
 mod tokens;
 mod words;

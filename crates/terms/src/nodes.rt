@@ -1,5 +1,5 @@
 // The two sorts of name in a term: the same bytes may name a class and a link.
-#[derive(Clone, Copy)]
+#[derive(Clone, Copy, Debug, PartialEq, Eq)]
 pub enum Sort {
     OfClass,
     OfLink,
