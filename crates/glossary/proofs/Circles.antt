@@ -1,42 +1,34 @@
 -- Flags that follow the glosses, with none for a class and itself, say exactly which class refers to which. Assumes
 -- nothing.
-use Rattle.std.proofs.Common.{◌≡◌, ℕ, zero, suc, ◌<◌, ◌≤◌, Bool, true, false, cond, ◌||◌, eqb, List, [], sym, refl, ap, ◌∙◌, subst, ⊎_elim, arith}
-use Rattle.std.proofs.lemmas.Bool.{cases_Bool, cases_eq, cases_lt, both_ways, and_parts, and_from, or_cases, or_from, and_right, or_left, or_right, eqb-true, eq-eqb, cond-true, cond-false}
-use Rattle.glossary.proofs.Anys.{same_test, never_true, any_some, any_at, any_same, any_same_in}
-use Rattle.glossary.specs.Any.{any_of, is_in}
+use Rattle.std.proofs.Common.{◌≡◌, ℕ, zero, suc, ◌<◌, ◌≤◌, Bool, true, false, cond, ◌&&◌, ◌||◌, eqb, List, [], sym, refl, ap, ◌∙◌, subst, ⊎_elim, arith}
+use Rattle.std.proofs.lemmas.Bool.{false_from_ne_true, cases_Bool, cases_eq, cases_lt, both_ways, and_parts, or_cases, or_from, and_right, or_left, or_right, eqb-true, eq-eqb, cond-true, cond-false, cond_both}
+use Rattle.glossary.proofs.Anys.{any_some, any_at, any_same, any_same_in, any_or, any_and}
+use Rattle.std.proofs.Math.Bool.{or_assoc}
+use Rattle.std.specs.List.{list_any}
+use Rattle.glossary.specs.Any.{is_in}
 use Rattle.glossary.specs.Flags.{Follows, Loopless, Bounded, reached, grown, weight}
 use Rattle.glossary.specs.Refers.{Refers, direct, through, refers_within}
 
 -- weights
 
-weight_step : (b : Bool) (m : ℕ) → cond b (suc m) m ≤ suc m
-weight_step true m = omega arith
-weight_step false m = omega arith
-
 pub weight_most : (n : ℕ) (p : ℕ → Bool) → weight n p ≤ n
 weight_most zero p = omega arith
-weight_most (suc n) p = let h = weight_most n p in let s = weight_step (p n) (weight n p) in omega arith
+weight_most (suc n) p =
+    let h = weight_most n p in
+    cond_both (p n) (suc (weight n p)) (weight n p) (λ k. k ≤ suc n) (λ t. omega arith) (λ f. omega arith)
 
 weight_or : (a b : Bool) (k m : ℕ) → (a ≡ true → b ≡ true) → k ≤ m → cond a (suc k) k ≤ cond b (suc m) m
-weight_or true true k m f h = omega arith
-weight_or true false k m f h = absurd (both_ways false refl (f refl))
-weight_or false true k m f h = omega arith
-weight_or false false k m f h = h
+weight_or a b k m f h = grind arith
+
+weight_new : (a b : Bool) (k m : ℕ) → a ≡ false → b ≡ true → k ≤ m → cond a (suc k) k < cond b (suc m) m
+weight_new a b k m f t h = grind arith
+
+weight_old : (a b : Bool) (k m : ℕ) → (a ≡ true → b ≡ true) → k < m → cond a (suc k) k < cond b (suc m) m
+weight_old a b k m f h = grind arith
 
 weight_more : (n : ℕ) (p q : ℕ → Bool) → ((k : ℕ) → p k ≡ true → q k ≡ true) → weight n p ≤ weight n q
 weight_more zero p q f = omega arith
 weight_more (suc n) p q f = weight_or (p n) (q n) (weight n p) (weight n q) (f n) (weight_more n p q f)
-
-weight_new : (a b : Bool) (k m : ℕ) → a ≡ false → b ≡ true → k ≤ m → cond a (suc k) k < cond b (suc m) m
-weight_new true b k m f t h = absurd (both_ways true f refl)
-weight_new false true k m f t h = omega arith
-weight_new false false k m f t h = absurd (both_ways false refl t)
-
-weight_old : (a b : Bool) (k m : ℕ) → (a ≡ true → b ≡ true) → k < m → cond a (suc k) k < cond b (suc m) m
-weight_old true true k m f h = omega arith
-weight_old true false k m f h = absurd (both_ways false refl (f refl))
-weight_old false true k m f h = omega arith
-weight_old false false k m f h = h
 
 -- one more number passes
 pub weight_less : (n : ℕ) (p q : ℕ → Bool) (k : ℕ) → ((k : ℕ) → p k ≡ true → q k ≡ true) → k < n → p k ≡ false → q k ≡ true → weight n p < weight n q
@@ -59,7 +51,10 @@ pub follows_same : (D D' : ℕ → List ℕ) (R R' : ℕ → ℕ → Bool) → F
 follows_same D D' R R' f e r c d =
     r c d ∙ f c d
     ∙ any_same (λ e. eqb e d || R e d) (λ e. eqb e d || R' e d) (D c) (λ x. ap (λ b. eqb x d || b) (sym (r x d)))
-    ∙ ap (any_of (λ e. eqb e d || R' e d)) (sym (e c))
+    ∙ ap (list_any (λ e. eqb e d || R' e d)) (sym (e c))
+
+own : (x b y r u : Bool) → x ≡ false → b ≡ true → u ≡ false → (x || ((b || y) && r)) ≡ (r || (u && r))
+own x b y r u p q s = grind arith
 
 module _ (D : ℕ → List ℕ) (R : ℕ → ℕ → Bool) (follows : Follows D R) where
   -- what a class mentions, it refers to, with all that this refers to
@@ -101,7 +96,7 @@ module _ (D : ℕ → List ℕ) (R : ℕ → ℕ → Bool) (follows : Follows D 
 
     -- as many glosses as the weight are enough
     pub within_weight : (gas c d : ℕ) → weight n (R c) ≤ gas → refers_within gas D c d ≡ R c d
-    within_weight zero c d l = sym (never_true (R c d) (λ t. weight_zero n (R c) d (below c d t) l t))
+    within_weight zero c d l = sym (false_from_ne_true (R c d) (λ t. weight_zero n (R c) d (below c d t) l t))
     within_weight (suc gas) c d l =
         any_same_in (λ e. eqb e d || refers_within gas D e d) (λ e. eqb e d || R e d) (D c)
         (λ e i. let w = weight_falls c e i in ap (λ b. eqb e d || b) (within_weight gas e d (omega arith)))
@@ -113,73 +108,38 @@ module _ (D : ℕ → List ℕ) (R : ℕ → ℕ → Bool) (follows : Follows D 
     -- class c had no gloss, and gets one that mentions ds, none of which is c or refers to it
     module _ (c : ℕ) (ds : List ℕ) (none : D c ≡ []) (clear : reached R ds c ≡ false) where
       unglossed : (f : ℕ) → R c f ≡ false
-      unglossed f = follows c f ∙ ap (any_of (λ e. eqb e f || R e f)) none
+      unglossed f = follows c f ∙ ap (list_any (λ e. eqb e f || R e f)) none
 
-      -- what is put before some f is one of ds, or refers to it
-      hit : (d f : ℕ) → is_in d ds ≡ true → (eqb d f || R d f) ≡ true → reached R ds f ≡ true
-      hit d f i t = any_at (λ e. eqb e f || R e f) ds d i t
-
-      missed : (d : ℕ) → is_in d ds ≡ true → (eqb d c || R d c) ≡ true → ⊥
-      missed d i t = both_ways (reached R ds c) clear (hit d c i t)
-
-      -- a flag that was there before, and one that is new
-      kept : (e f : ℕ) → R e f ≡ true → grown R c ds e f ≡ true
-      kept e f t = or_left (R e f) _ t
-
-      new : (e f : ℕ) → (eqb e c || R e c) ≡ true → reached R ds f ≡ true → grown R c ds e f ≡ true
-      new e f t r = or_right (R e f) _ (and_from (eqb e c || R e c) (reached R ds f) t r)
-
-      in_own : (f : ℕ) → grown R c ds c f ≡ true → any_of (λ d. eqb d f || grown R c ds d f) ds ≡ true
-      in_own f t =
-          ⊎_elim
-          (λ old. absurd (both_ways (R c f) (unglossed f) old))
-          (λ both. let x = any_some (λ e. eqb e f || R e f) ds (and_parts (eqb c c || R c c) (reached R ds f) both).1 in any_at (λ d. eqb d f || grown R c ds d f) ds x.0 x.1 (⊎_elim (λ same. or_left (eqb x.0 f) _ same) (λ on. or_right (eqb x.0 f) _ (kept x.0 f on)) (or_cases (eqb x.0 f) (R x.0 f) x.2)))
-          (or_cases (R c f) _ t)
-
-      in_other : (e f : ℕ) → eqb e c ≡ false → grown R c ds e f ≡ true → any_of (λ d. eqb d f || grown R c ds d f) (D e) ≡ true
-      in_other e f n t =
-          ⊎_elim
-          (λ old. let x = any_some (λ d. eqb d f || R d f) (D e) (sym (follows e f) ∙ old) in any_at (λ d. eqb d f || grown R c ds d f) (D e) x.0 x.1 (⊎_elim (λ same. or_left (eqb x.0 f) _ same) (λ on. or_right (eqb x.0 f) _ (kept x.0 f on)) (or_cases (eqb x.0 f) (R x.0 f) x.2)))
-          (λ both. let p = and_parts (eqb e c || R e c) (reached R ds f) both in let on : R e c ≡ true = ⊎_elim (λ same. absurd (both_ways (eqb e c) n same)) (λ on. on) (or_cases (eqb e c) (R e c) p.0) in let x = any_some (λ d. eqb d c || R d c) (D e) (sym (follows e c) ∙ on) in any_at (λ d. eqb d f || grown R c ds d f) (D e) x.0 x.1 (or_right (eqb x.0 f) _ (new x.0 f x.2 p.1)))
-          (or_cases (R e f) _ t)
-
-      out_own : (f : ℕ) → any_of (λ d. eqb d f || grown R c ds d f) ds ≡ true → grown R c ds c f ≡ true
-      out_own f t =
-          let x = any_some (λ d. eqb d f || grown R c ds d f) ds t in
-          let d = x.0 in
-          let r : reached R ds f ≡ true =
-          ⊎_elim
-          (λ same. hit d f x.1 (or_left (eqb d f) (R d f) same))
-          (λ g. ⊎_elim (λ old. hit d f x.1 (or_right (eqb d f) (R d f) old)) (λ both. absurd (missed d x.1 (and_parts (eqb d c || R d c) (reached R ds f) both).0)) (or_cases (R d f) _ g))
-          (or_cases (eqb d f) (grown R c ds d f) x.2) in
-          new c f (or_left (eqb c c) (R c c) (eq-eqb c c refl)) r
-
-      out_other : (e f : ℕ) → any_of (λ d. eqb d f || grown R c ds d f) (D e) ≡ true → grown R c ds e f ≡ true
-      out_other e f t =
-          let x = any_some (λ d. eqb d f || grown R c ds d f) (D e) t in
-          let d = x.0 in
-          ⊎_elim
-          (λ same. kept e f (refers_by e f d x.1 (or_left (eqb d f) (R d f) same)))
-          (λ g. ⊎_elim (λ old. kept e f (refers_by e f d x.1 (or_right (eqb d f) (R d f) old))) (λ both. let p = and_parts (eqb d c || R d c) (reached R ds f) both in new e f (or_right (eqb e c) (R e c) (refers_by e c d x.1 p.0)) p.1) (or_cases (R d f) _ g))
-          (or_cases (eqb d f) (grown R c ds d f) x.2)
+      -- what a list of classes reaches by the flags that have grown
+      split : (es : List ℕ) (f : ℕ) → reached (grown R c ds) es f ≡ (reached R es f || (reached R es c && reached R ds f))
+      split es f =
+          any_same _ _ es (λ d. sym (or_assoc (eqb d f) (R d f) ((eqb d c || R d c) && reached R ds f)))
+          ∙ any_or (λ d. eqb d f || R d f) (λ d. (eqb d c || R d c) && reached R ds f) es
+          ∙ ap (λ b. reached R es f || b) (any_and (λ d. eqb d c || R d c) (reached R ds f) es)
 
       pub grown_follows : Follows (λ e. cond (eqb e c) ds (D e)) (grown R c ds)
       grown_follows e f =
           ⊎_elim
-          (λ t. let same : e ≡ c = eqb-true e c t in ap (λ k. grown R c ds k f) same ∙ same_test (grown R c ds c f) (any_of (λ d. eqb d f || grown R c ds d f) ds) (in_own f) (out_own f) ∙ ap (any_of (λ d. eqb d f || grown R c ds d f)) (sym (cond-true (eqb e c) ds (D e) t)))
-          (λ n. same_test (grown R c ds e f) (any_of (λ d. eqb d f || grown R c ds d f) (D e)) (in_other e f n) (out_other e f) ∙ ap (any_of (λ d. eqb d f || grown R c ds d f)) (sym (cond-false (eqb e c) ds (D e) n)))
+          (λ t. own (R e f) (eqb e c) (R e c) (reached R ds f) (reached R ds c) (ap (λ k. R k f) (eqb-true e c t) ∙ unglossed f) t clear ∙ sym (ap (λ es. reached (grown R c ds) es f) (cond-true (eqb e c) ds (D e) t) ∙ split ds f))
+          (λ n. ap (λ b. R e f || ((b || R e c) && reached R ds f)) n ∙ (λ i. follows e f i || (follows e c i && reached R ds f)) ∙ sym (ap (λ es. reached (grown R c ds) es f) (cond-false (eqb e c) ds (D e) n) ∙ split (D e) f))
           (cases_Bool (eqb e c))
+
+      -- what reaches e reaches c, where e refers to c
+      onward : (e : ℕ) → R e c ≡ true → reached R ds e ≡ true → reached R ds c ≡ true
+      onward e on t =
+          let (d, i, h) = any_some (λ d. eqb d e || R d e) ds t in
+          any_at (λ d. eqb d c || R d c) ds d i
+          (or_right (eqb d c) (R d c) (⊎_elim (λ same. ap (λ k. R k c) (eqb-true d e same) ∙ on) (λ far. refers_trans d e c far on) (or_cases (eqb d e) (R d e) h)))
 
       pub grown_loopless : Loopless (grown R c ds)
       grown_loopless e =
-          never_true (grown R c ds e e)
-          (λ t.
-          ⊎_elim
-          (both_ways (R e e) (loopless e))
-          (λ both. let p = and_parts (eqb e c || R e c) (reached R ds e) both in let x = any_some (λ d. eqb d e || R d e) ds p.1 in let d = x.0 in missed d x.1 (⊎_elim (λ here. subst (λ k. (eqb d k || R d k) ≡ true) (eqb-true e c here) x.2) (λ on. or_right (eqb d c) (R d c) (⊎_elim (λ same. ap (λ k. R k c) (eqb-true d e same) ∙ on) (λ far. refers_trans d e c far on) (or_cases (eqb d e) (R d e) x.2))) (or_cases (eqb e c) (R e c) p.0)))
-          (or_cases (R e e) _ t))
+          or_from (R e e) _ (loopless e)
+          (false_from_ne_true _ (λ t.
+          let p = and_parts (eqb e c || R e c) (reached R ds e) t in
+          both_ways (reached R ds c) clear
+          (⊎_elim (λ same. subst (λ k. reached R ds k ≡ true) (eqb-true e c same) p.1) (λ on. onward e on p.1) (or_cases (eqb e c) (R e c) p.0))))
 
       pub grown_bounded : ((e : ℕ) → is_in e ds ≡ true → e < n) → Bounded n (grown R c ds)
       grown_bounded low e f h =
           or_from (R e f) _ (bounded e f h)
-          (and_right (eqb e c || R e c) (reached R ds f) (never_true (reached R ds f) (λ t. let x = any_some (λ d. eqb d f || R d f) ds t in let d = x.0 in ⊎_elim (λ same. let k = low d x.1 in let s : d ≡ f = eqb-true d f same in absurd (omega arith)) (both_ways (R d f) (bounded d f h)) (or_cases (eqb d f) (R d f) x.2))))
+          (and_right (eqb e c || R e c) (reached R ds f) (false_from_ne_true (reached R ds f) (λ t. let x = any_some (λ d. eqb d f || R d f) ds t in let d = x.0 in ⊎_elim (λ same. let k = low d x.1 in let s : d ≡ f = eqb-true d f same in absurd (omega arith)) (both_ways (R d f) (bounded d f h)) (or_cases (eqb d f) (R d f) x.2))))

@@ -1,7 +1,4 @@
 pub mod Anys
-pub mod Asks
 pub mod Circles
-pub mod Folds
-pub mod Kept
 pub mod Numbered
-pub mod Places
+pub mod Visits

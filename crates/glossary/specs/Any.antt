@@ -1,9 +1,6 @@
--- A test of some element of a list. Assumes nothing.
-use Rattle.std.specs.Prelude.{ℕ, Bool, false, ◌||◌, List, [], ◌∷◌, nat_eq}
-
-abbrev pub any_of : {X : Type 0} → (X → Bool) → List X → Bool
-any_of p [] = false
-any_of p (x ∷ xs) = p x || any_of p xs
+-- A number stands in a list. Assumes nothing.
+use Rattle.std.specs.Prelude.{ℕ, Bool, List, nat_eq}
+use Rattle.std.specs.List.{list_any}
 
 abbrev pub is_in : ℕ → List ℕ → Bool
-is_in d ds = any_of (λ e. nat_eq e d) ds
+is_in d ds = list_any (λ e. nat_eq e d) ds

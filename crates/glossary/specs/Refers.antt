@@ -1,6 +1,7 @@
 -- Which classes a gloss mentions, and to which classes a class refers through glosses. Assumes nothing.
 use Rattle.std.specs.Prelude.{◌≡◌, ℕ, zero, suc, Bool, true, false, ◌||◌, List, [], ◌∷◌, ◌++◌, Some, None, Option, ◌==◌}
-use Rattle.glossary.specs.Any.{any_of, is_in}
+use Rattle.std.specs.List.{list_any}
+use Rattle.glossary.specs.Any.{is_in}
 use Rattle.terms.specs.Term.{Term, top, bottom, class, neg, and, or, exists, forall, may, must}
 
 -- the classes that a term mentions, from left to right
@@ -29,4 +30,4 @@ pub data Refers (D : ℕ → List ℕ) : ℕ → ℕ → Type 0 where
 -- the same as a test, through at most n glosses
 abbrev pub refers_within : ℕ → (ℕ → List ℕ) → ℕ → ℕ → Bool
 refers_within zero D c d = false
-refers_within (suc n) D c d = any_of (λ e. (e == d) || refers_within n D e d) (D c)
+refers_within (suc n) D c d = list_any (λ e. (e == d) || refers_within n D e d) (D c)

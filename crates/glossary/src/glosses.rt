@@ -6,7 +6,7 @@ ghost use Rattle.glossary.specs.Records.{has_at, gloss_at, refers_at};
 ghost use Rattle.glossary.specs.contracts.records.ClassRecord.{the_row as record-row};
 ghost use Rattle.glossary.specs.contracts.table.Glossary.{the_row};
 
-use crate::records::{ClassRecord, ClassSet};
+use crate::records::{CLASSES, ClassRecord, ClassSet};
 use crate::table::Glossary;
 use std::alloc::{AllocError, Global};
 
@@ -20,7 +20,7 @@ impl Glossary {
             refers: ClassSet::new(),
         };
         let mut records = Vec::new(heap);
-        records.resize(64, plain)?;
+        records.resize(CLASSES, plain)?;
         Ok(Glossary { records })
     }
 
@@ -28,30 +28,26 @@ impl Glossary {
     pub fn gloss(&self, c: usize) -> Option<usize>
         ensures { result ≡ gloss_at self.now.records.items c }
     {
-        if c < 64 { self.records[c].gloss } else { None }
+        self.records.get(c)?.gloss
     }
 
     // Class `c` refers to class `d` through glosses.
     pub fn refers(&self, c: usize, d: usize) -> bool
         ensures { result ≡ refers_at self.now.records.items c d }
     {
-        c < 64 && self.records[c].refers.has(d)
+        self.records.get(c).is_some_and(|r| r.refers.has(d))
     }
 
     // The classes that class `c` refers to.
     pub(crate) fn reach_of(&self, c: usize) -> ClassSet
         ensures { (f : ℕ) → has_at result f ≡ refers_at self.now.records.items c f }
     {
-        if c < 64 {
-            self.records[c].refers
-        } else {
-            ClassSet::new()
-        }
+        self.records.get(c).map_or(ClassSet::new(), |r| r.refers)
     }
 
     // Lends the record of class `c`.
     fn record(&mut self, c: usize) -> &mut ClassRecord
-        requires { c < 64 }
+        requires { c < CLASSES }
         ensures* follows { sem 𝓛 (follows the_row record-row self.entry.ghost_name result.ghost_name (λ w. record { records = with_item self.old.records c w; all = self.old.all })) }
         ensures value { result.now ≡ slice_index_or self.old.records.items c result.now }
     {
@@ -60,24 +56,24 @@ impl Glossary {
 
     // Class `c`, and each that refers to it, refers to all of `reach` too.
     fn pass_on(&mut self, c: usize, reach: &ClassSet)
-        requires { c < 64 }
+        requires { c < CLASSES }
         ensures glosses { (e : ℕ) → gloss_at self.new.records.items e ≡ gloss_at self.old.records.items e }
         ensures refers { PassedOn self.old.records.items c reach.now self.new.records.items }
     {
-        for e in 0..64 {
-            if e == c || self.refers(e, c) {
-                self.record(e).refers.join(reach);
+        for (e, record) in self.records.iter_mut().enumerate() {
+            if e == c || record.refers.has(c) {
+                record.refers.join(reach);
             }
         }
     }
 
     // Class `c` is glossed by the term of this number, which is, or refers to, the classes of `reach`. Nothing happens
-    // where `c` is none of the 64.
+    // where `c` is not below `CLASSES`.
     pub fn define(&mut self, c: usize, term: usize, reach: &ClassSet)
-        ensures defined { c < 64 → Defined self.old.records.items c term reach.now self.new.records.items }
-        ensures past { 64 ≤ c → self.new.records.items ≡ self.old.records.items }
+        ensures defined { c < CLASSES → Defined self.old.records.items c term reach.now self.new.records.items }
+        ensures past { CLASSES ≤ c → self.new.records.items ≡ self.old.records.items }
     {
-        if c < 64 {
+        if c < CLASSES {
             self.record(c).gloss = Some(term);
             self.pass_on(c, reach);
         }

@@ -7,6 +7,7 @@ mod reaching;
 mod records;
 mod sets;
 mod table;
+mod visiting;
 
 pub use asking::{circular, number_of};
 pub use reaching::reach;

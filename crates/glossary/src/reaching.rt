@@ -1,19 +1,18 @@
 ghost use Rattle.std.specs.Prelude.{◌≡◌, ℕ, ◌<◌, ◌≤◌, map, length, MatchResult};
-ghost use Rattle.glossary.specs.Any.{any_of};
+ghost use Rattle.std.specs.List.{list_any};
 ghost use Rattle.glossary.specs.Asked.{reaches};
-ghost use Rattle.glossary.specs.Builders.{reacher_env, reacher_flag, reacher_raises};
-ghost use Rattle.glossary.specs.Marks.{Marks, Stays};
 ghost use Rattle.glossary.specs.Records.{has_at};
+ghost use Rattle.glossary.specs.Sees.{ReacherSees};
 ghost use Rattle.tables.specs.Vocabulary.{class_names};
 ghost use Rattle.terms.specs.Nodes.{name_bytes};
 ghost use Rattle.terms.specs.Term.{Spelled};
 ghost use Rattle.terms.specs.Told.{IsRead, IsRefused};
 
-use crate::records::ClassSet;
+use crate::records::{CLASSES, ClassSet};
 use crate::table::Glossary;
+use crate::visiting::{Visitor, visit};
 use distinct::Distinct;
 use names::{Name, Refusal};
-use terms::{Builder, Node, Sort, read};
 
 // Gathers the known classes of a term, and all they refer to.
 #[derive(Drop)]
@@ -23,23 +22,14 @@ struct Reacher<'a> {
     found: ClassSet,
 }
 
-impl<'a> Builder for Reacher<'a> {
-    ghost labels = { λ s k w _ t. Marks reacher_env reacher_flag reacher_raises s k w t };
+impl<'a> Visitor for Reacher<'a> {
+    ghost sees = { ReacherSees };
 
-    ghost makes = { λ s _ _ t. Stays reacher_env reacher_flag reacher_raises s t };
-
-    fn label(&mut self, sort: Sort, name: Name) -> usize {
-        if let Sort::OfClass = sort {
-            if let Some(c) = self.classes.find(&name) {
-                self.found.add(c);
-                self.found.join(&self.glossary.reach_of(c));
-            }
+    fn see(&mut self, class: &Name) {
+        if let Some(c) = self.classes.find(class) {
+            self.found.add(c);
+            self.found.join(&self.glossary.reach_of(c));
         }
-        0
-    }
-
-    fn node(&mut self, _node: Node) -> usize {
-        0
     }
 }
 
@@ -49,13 +39,12 @@ pub fn reach<'a>(
     glossary: &'a Glossary,
     text: &[u8],
 ) -> Result<ClassSet, Refusal>
-    ensures { MatchResult result (λ s. (t : Spelled) × IsRead text.now t × ((f : ℕ) → f < 64 → has_at s f ≡ any_of (λ v. reaches (map name_bytes classes.now.items.items) glossary.now.records.items v f) (class_names t)) × (length classes.now.items.items ≤ 64 → (f : ℕ) → has_at s f ≡ any_of (λ v. reaches (map name_bytes classes.now.items.items) glossary.now.records.items v f) (class_names t))) (λ e. IsRefused text.now e) }
+    ensures { MatchResult result (λ s. (t : Spelled) × IsRead text.now t × ((f : ℕ) → f < CLASSES → has_at s f ≡ list_any (λ v. reaches (map name_bytes classes.now.items.items) glossary.now.records.items v f) (class_names t)) × (length classes.now.items.items ≤ CLASSES → (f : ℕ) → has_at s f ≡ list_any (λ v. reaches (map name_bytes classes.now.items.items) glossary.now.records.items v f) (class_names t))) (λ e. IsRefused text.now e) }
 {
-    let mut reacher = Reacher {
+    let reacher = Reacher {
         classes,
         glossary,
         found: ClassSet::new(),
     };
-    read(&mut reacher, text)?;
-    Ok(reacher.found)
+    Ok(visit(text, reacher)?.found)
 }

@@ -8,7 +8,6 @@ pub mod Laws
 pub mod Names
 pub mod Numbers
 pub mod OneName
-pub mod Says
 pub mod Shown
 pub mod Spelling
 pub mod Step

@@ -1,8 +1,9 @@
 -- Names that are put behind others: lengths, and numbers that stay. Assumes nothing.
-use Rattle.std.proofs.Common.{◌≡◌, ℕ, zero, suc, ◌<◌, ◌≤◌, true, false, cond, ltb, List, [], ◌∷◌, ◌++◌, length, get_or, sym, refl, ap, ◌∙◌, subst, ⊎_elim, arith}
-use Rattle.std.proofs.lemmas.Slice.Eq.{bytes_eq-Decides}
+use Rattle.std.proofs.Common.{◌≡◌, ℕ, zero, suc, ◌<◌, ◌≤◌, false, List, [], ◌∷◌, ◌++◌, length, get_or, sym, refl, ap, ◌∙◌, ⊎_elim, arith}
+use Rattle.std.proofs.lemmas.Bool.{cases_Bool, cond-true, cond-false}
+use Rattle.std.proofs.lemmas.Grind.{common_steps}
 use Rattle.std.proofs.lemmas.List.{append-nil, append_assoc, length-append, length_push}
-use Rattle.std.proofs.lemmas.Bool.{cases_Bool, cond-true, cond-false, ltb-true, ltb-false, lt-ltb, le-ltb}
+use Rattle.std.proofs.lemmas.Slice.Eq.{bytes_eq-Decides}
 use Rattle.std.specs.Str.{bytes_eq}
 use Rattle.distinct.specs.Numbering.{number, known}
 use Rattle.tables.specs.Book.{keep, lacks, placed}
@@ -12,34 +13,16 @@ use Rattle.tables.specs.Vocabulary.{with_name, with_names}
 -- the number of a known name, as names are put behind
 number_kept : (xs zs : List (List ℕ)) (w : List ℕ) → number xs w < length xs → number (xs ++ zs) w ≡ number xs w
 number_kept [] zs w l = absurd (omega arith)
-number_kept (x ∷ xs) zs w l =
-    ⊎_elim
-    (λ t. cond-true (bytes_eq x w) 0 _ t ∙ sym (cond-true (bytes_eq x w) 0 (suc (number xs w)) t))
-    (λ f.
-    let e = cond-false (bytes_eq x w) 0 (suc (number xs w)) f in
-    cond-false (bytes_eq x w) 0 (suc (number (xs ++ zs) w)) f ∙ ap suc (number_kept xs zs w (omega arith)) ∙ sym e)
-    (cases_Bool (bytes_eq x w))
+number_kept (x ∷ xs) zs w l = let k = number_kept xs zs w in grind (arith, common_steps)
 
 pub number_below : (xs : List (List ℕ)) (w : List ℕ) → number xs w ≤ length xs
 number_below [] w = omega arith
-number_below (x ∷ xs) w =
-    let h = number_below xs w in
-    ⊎_elim
-    (λ t. let e = cond-true (bytes_eq x w) 0 (suc (number xs w)) t in omega arith)
-    (λ f. let e = cond-false (bytes_eq x w) 0 (suc (number xs w)) f in omega arith)
-    (cases_Bool (bytes_eq x w))
+number_below (x ∷ xs) w = let h = number_below xs w in grind (arith, common_steps)
 
 -- a name that was put behind has the next number
 pub number_new : (xs : List (List ℕ)) (w : List ℕ) → known xs w ≡ false → number (xs ++ w ∷ []) w ≡ length xs
 number_new [] w k = cond-true (bytes_eq w w) 0 1 ((bytes_eq-Decides w w).1 refl)
-number_new (x ∷ xs) w k =
-    let far = ltb-false (number (x ∷ xs) w) (length (x ∷ xs)) k in
-    ⊎_elim
-    (λ t. let e = cond-true (bytes_eq x w) 0 (suc (number xs w)) t in absurd (omega arith))
-    (λ f.
-    let e = cond-false (bytes_eq x w) 0 (suc (number xs w)) f in
-    cond-false (bytes_eq x w) 0 (suc (number (xs ++ w ∷ []) w)) f ∙ ap suc (number_new xs w (le-ltb (number xs w) (length xs) (omega arith))))
-    (cases_Bool (bytes_eq x w))
+number_new (x ∷ xs) w k = let n = number_new xs w in grind (arith, common_steps)
 
 -- the entry at a known name's number is that name
 pub number_at : (xs : List (List ℕ)) (w : List ℕ) → number xs w < length xs → get_or xs (number xs w) [] ≡ w
@@ -52,13 +35,15 @@ number_at (x ∷ xs) w l =
     ap (λ n. get_or (x ∷ xs) n []) e ∙ number_at xs w (omega arith))
     (cases_Bool (bytes_eq x w))
 
+-- a name that is new stands nowhere
+pub absent_at : (xs : List (List ℕ)) (x : List ℕ) (k : ℕ) → length xs ≤ number xs x → k < length xs → get_or xs k [] ≡ x → ⊥
+absent_at [] x k l h e = omega arith
+absent_at (y ∷ xs) x zero l h e = let t = (bytes_eq-Decides y x).1 e in grind (arith, common_steps)
+absent_at (y ∷ xs) x (suc k) l h e = let n = absent_at xs x k in grind (arith, common_steps)
+
 -- a name that was put in is known, under the number it had or got
 pub with_known : (xs : List (List ℕ)) (w : List ℕ) → number (with_name xs w) w < length (with_name xs w)
-with_known xs w =
-    ⊎_elim
-    (λ t. subst (λ ys. number ys w < length ys) (sym (cond-true (known xs w) xs (xs ++ w ∷ []) t)) (ltb-true (number xs w) (length xs) t))
-    (λ f. let l = length_push xs w in let n = number_new xs w f in subst (λ ys. number ys w < length ys) (sym (cond-false (known xs w) xs (xs ++ w ∷ []) f)) (omega arith))
-    (cases_Bool (known xs w))
+with_known xs w = let l = length_push xs w in let n = number_new xs w in grind (arith, common_steps)
 
 -- and names that are known keep theirs
 pub front_number : (xs ys : List (List ℕ)) (w : List ℕ) → Front xs ys → number xs w < length xs → number ys w ≡ number xs w
@@ -68,39 +53,17 @@ front_number xs ys w (zs, e) l = ap (λ v. number v w) e ∙ number_kept xs zs w
 
 module _ (limit : ℕ) (xs : List (List ℕ)) (w : List ℕ) where
   pub keep_is : lacks limit xs w ≡ false → keep limit xs w xs w ≡ with_name xs w
-  keep_is l =
-      ⊎_elim
-      (λ t. cond-true (known xs w) xs _ t ∙ sym (cond-true (known xs w) xs (xs ++ w ∷ []) t))
-      (λ f.
-      cond-false (known xs w) xs (cond (ltb (length xs) limit) (xs ++ w ∷ []) xs) f
-      ∙ ⊎_elim
-      (λ t. cond-true (ltb (length xs) limit) (xs ++ w ∷ []) xs t)
-      (λ g. let h = sym (cond-false (known xs w) false (cond (ltb (length xs) limit) false true) f ∙ cond-false (ltb (length xs) limit) false true g) ∙ l in let z : ◌≡◌ {A = ℕ} 0 1 = cc in absurd (omega arith))
-      (cases_Bool (ltb (length xs) limit))
-      ∙ sym (cond-false (known xs w) xs (xs ++ w ∷ []) f))
-      (cases_Bool (known xs w))
+  keep_is l = grind (arith, common_steps)
 
   pub with_fits : lacks limit xs w ≡ false → length xs ≤ limit → length (with_name xs w) ≤ limit
-  with_fits l h =
-      ⊎_elim
-      (λ t. subst (λ ys. length ys ≤ limit) (sym (cond-true (known xs w) xs (xs ++ w ∷ []) t)) h)
-      (λ f.
-      subst (λ ys. length ys ≤ limit) (sym (cond-false (known xs w) xs (xs ++ w ∷ []) f))
-      (⊎_elim
-      (λ t. let k = ltb-true (length xs) limit t in let p = length_push xs w in omega arith)
-      (λ g. let h = sym (cond-false (known xs w) false (cond (ltb (length xs) limit) false true) f ∙ cond-false (ltb (length xs) limit) false true g) ∙ l in let z : ◌≡◌ {A = ℕ} 0 1 = cc in absurd (omega arith))
-      (cases_Bool (ltb (length xs) limit))))
-      (cases_Bool (known xs w))
+  with_fits l h = let p = length_push xs w in grind (arith, common_steps)
 
   pub fits_with : length (with_name xs w) ≤ limit → lacks limit xs w ≡ false
-  fits_with h =
-      ⊎_elim
-      (λ t. cond-true (known xs w) false _ t)
-      (λ f.
-      let k : length (xs ++ w ∷ []) ≤ limit = subst (λ ys. length ys ≤ limit) (cond-false (known xs w) xs (xs ++ w ∷ []) f) h in
-      let p = length_push xs w in
-      cond-false (known xs w) false (cond (ltb (length xs) limit) false true) f ∙ cond-true (ltb (length xs) limit) false true (lt-ltb (length xs) limit (omega arith)))
-      (cases_Bool (known xs w))
+  fits_with h = let p = length_push xs w in grind (arith, common_steps)
+
+  -- the number that a name gets is its number from then on
+  pub label_is : lacks limit xs w ≡ false → placed limit xs w ≡ number (with_name xs w) w
+  label_is l = let n = number_new xs w in let h = number_below xs w in grind (arith, common_steps)
 
 pub with_front : (xs : List (List ℕ)) (w : List ℕ) → Front xs (with_name xs w)
 with_front xs w =
@@ -125,29 +88,3 @@ all_front xs (w ∷ ws) = front_trans xs (with_name xs w) (with_names (with_name
 pub all_append : (xs ws vs : List (List ℕ)) → with_names xs (ws ++ vs) ≡ with_names (with_names xs ws) vs
 all_append xs [] vs = refl
 all_append xs (w ∷ ws) vs = all_append (with_name xs w) ws vs
-
--- a name that is new stands nowhere
-pub absent_at : (xs : List (List ℕ)) (x : List ℕ) (k : ℕ) → length xs ≤ number xs x → k < length xs → get_or xs k [] ≡ x → ⊥
-absent_at [] x k l h e = omega arith
-absent_at (y ∷ xs) x zero l h e =
-    let t = (bytes_eq-Decides y x).1 e in
-    let n = cond-true (bytes_eq y x) 0 (suc (number xs x)) t in omega arith
-absent_at (y ∷ xs) x (suc k) l h e =
-    ⊎_elim
-    (λ t. let n = cond-true (bytes_eq y x) 0 (suc (number xs x)) t in omega arith)
-    (λ f. let n = cond-false (bytes_eq y x) 0 (suc (number xs x)) f in absent_at xs x k (omega arith) (omega arith) e)
-    (cases_Bool (bytes_eq y x))
-
--- the number that a name gets is its number from then on
-pub label_is : (limit : ℕ) (xs : List (List ℕ)) (w : List ℕ) → lacks limit xs w ≡ false → placed limit xs w ≡ number (with_name xs w) w
-label_is limit xs w l =
-    cond-false (lacks limit xs w) 0 (number xs w) l
-    ∙ ⊎_elim
-    (λ t. ap (λ ys. number ys w) (sym (cond-true (known xs w) xs (xs ++ w ∷ []) t)))
-    (λ f.
-    let far = ltb-false (number xs w) (length xs) f in
-    let near = number_below xs w in
-    let n = number_new xs w f in
-    let last : number xs w ≡ length xs = omega arith in
-    last ∙ sym n ∙ ap (λ ys. number ys w) (sym (cond-false (known xs w) xs (xs ++ w ∷ []) f)))
-    (cases_Bool (known xs w))

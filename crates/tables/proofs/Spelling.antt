@@ -20,7 +20,7 @@ legal_is w e = legal_when w (none (flaw 0 w) e)
   where
     none : (f : Option ℕ) → not (is_some f) ≡ true → f ≡ None
     none None e = refl
-    none (Some i) e = let z : ◌≡◌ {A = ℕ} 0 1 = cc in absurd (omega arith)
+    none (Some i) e = cc
 
 pub is_legal : (w : List ℕ) → Legal w → legal w ≡ true
 is_legal w l = ap (λ f. not (is_some f)) (when_legal w l)

@@ -1,7 +1,9 @@
 -- A node stands in the tables exactly if its term's writing does. Assumes nothing.
-use Rattle.std.proofs.Common.{◌≡◌, ℕ, ◌<◌, ◌≤◌, true, false, cond, ◌&&◌, ltb, leb, List, [], ◌∷◌, ◌++◌, map, length, get_or, sym, refl, ap, ◌∙◌, subst, ⊎_elim, zero-add, arith}
+use Rattle.std.proofs.Common.{◌≡◌, ℕ, ◌<◌, ◌≤◌, true, false, cond, ltb, List, [], ◌∷◌, ◌++◌, map, length, get_or, sym, refl, ap, ◌∙◌, subst, zero-add, arith}
+use Rattle.std.proofs.lemmas.Grind.{common_steps}
 use Rattle.std.proofs.lemmas.List.{ext_get_or, get_or-map, length-map, length_push, map_push}
-use Rattle.std.proofs.lemmas.Bool.{and_from, and_parts, both_ways, cases_Bool, cond-true, cond-false, lt-ltb, ltb-true}
+use Rattle.std.proofs.lemmas.Bool.{and_parts, ltb-true}
+use Rattle.std.specs.Cmp.{both_ways}
 use Rattle.distinct.specs.Numbering.{number, known}
 use Rattle.tables.proofs.Behind.{known_from}
 use Rattle.tables.proofs.Numbers.{number_at}
@@ -24,26 +26,17 @@ sound_later : (nc nl p q : ℕ) → p ≤ q → (n : Node) → sound nc nl p n �
 sound_later nc nl p q h Top s = refl
 sound_later nc nl p q h Bottom s = refl
 sound_later nc nl p q h (Class c) s = s
-sound_later nc nl p q h (Not a) s = later p q h a s
-  where
-    later : (p q : ℕ) → p ≤ q → (a : ℕ) → ltb a p ≡ true → ltb a q ≡ true
-    later p q h a s = let l = ltb-true a p s in lt-ltb a q (omega arith)
-sound_later nc nl p q h (And a b) s = let (x, y) = and_parts (ltb a p) (ltb b p) s in let k = ltb-true a p x in let l = ltb-true b p y in and_from _ _ (lt-ltb a q (omega arith)) (lt-ltb b q (omega arith))
-sound_later nc nl p q h (Or a b) s = let (x, y) = and_parts (ltb a p) (ltb b p) s in let k = ltb-true a p x in let l = ltb-true b p y in and_from _ _ (lt-ltb a q (omega arith)) (lt-ltb b q (omega arith))
-sound_later nc nl p q h (Exists l a) s = let (x, y) = and_parts (ltb l nl) (ltb a p) s in let k = ltb-true a p y in and_from _ _ x (lt-ltb a q (omega arith))
-sound_later nc nl p q h (Forall l a) s = let (x, y) = and_parts (ltb l nl) (ltb a p) s in let k = ltb-true a p y in and_from _ _ x (lt-ltb a q (omega arith))
-sound_later nc nl p q h (May i a) s = let (x, y) = and_parts (leb 1 i && leb i 8) (ltb a p) s in let k = ltb-true a p y in and_from _ _ x (lt-ltb a q (omega arith))
-sound_later nc nl p q h (Must i a) s = let (x, y) = and_parts (leb 1 i && leb i 8) (ltb a p) s in let k = ltb-true a p y in and_from _ _ x (lt-ltb a q (omega arith))
+sound_later nc nl p q h (Not a) s = grind (arith, common_steps)
+sound_later nc nl p q h (And a b) s = grind (arith, common_steps)
+sound_later nc nl p q h (Or a b) s = grind (arith, common_steps)
+sound_later nc nl p q h (Exists l a) s = grind (arith, common_steps)
+sound_later nc nl p q h (Forall l a) s = grind (arith, common_steps)
+sound_later nc nl p q h (May i a) s = grind (arith, common_steps)
+sound_later nc nl p q h (Must i a) s = grind (arith, common_steps)
 
--- a node that is new and finds a place is put behind the others
-pub noded_new : (c : Book) (n : Node) → lacks c.node_limit (map show_node c.nodes) (show_node n) ≡ false → known (map show_node c.nodes) (show_node n) ≡ false → (noded n c).nodes ≡ c.nodes ++ n ∷ []
-noded_new c n room f =
-    let shown = map show_node c.nodes in
-    cond-false (known shown (show_node n)) c.nodes (cond (ltb (length shown) c.node_limit) (c.nodes ++ n ∷ []) c.nodes) f
-    ∙ ⊎_elim
-    (λ t. cond-true (ltb (length shown) c.node_limit) (c.nodes ++ n ∷ []) c.nodes t)
-    (λ g. let h = sym (cond-false (known shown (show_node n)) false (cond (ltb (length shown) c.node_limit) false true) f ∙ cond-false (ltb (length shown) c.node_limit) false true g) ∙ room in let z : ◌≡◌ {A = ℕ} 0 1 = cc in absurd (omega arith))
-    (cases_Bool (ltb (length shown) c.node_limit))
+-- a node that finds a place is put behind the others where it is new
+pub noded_is : (c : Book) (n : Node) → lacks c.node_limit (map show_node c.nodes) (show_node n) ≡ false → (noded n c).nodes ≡ cond (known (map show_node c.nodes) (show_node n)) c.nodes (c.nodes ++ n ∷ [])
+noded_is c n room = grind (arith, common_steps)
 
 module _ (c : Book) where
   -- how a tree of the table is written
@@ -84,8 +77,8 @@ module _ (c : Book) where
     again_is nc nl Bottom f = refl
     again_is nc nl (Class k) f = refl
     again_is nc nl (Not a) f = ap Not (place_at a f)
-    again_is nc nl (And a b) f = let q = and_parts _ _ f in ap (λ k. And k (place (get_or (trees c.nodes) b bottom))) (place_at a q.0) ∙ ap (And a) (place_at b q.1)
-    again_is nc nl (Or a b) f = let q = and_parts _ _ f in ap (λ k. Or k (place (get_or (trees c.nodes) b bottom))) (place_at a q.0) ∙ ap (Or a) (place_at b q.1)
+    again_is nc nl (And a b) f = let q = and_parts _ _ f in let x = place_at a q.0 in let y = place_at b q.1 in cc
+    again_is nc nl (Or a b) f = let q = and_parts _ _ f in let x = place_at a q.0 in let y = place_at b q.1 in cc
     again_is nc nl (Exists l a) f = ap (Exists l) (place_at a (and_parts _ _ f).1)
     again_is nc nl (Forall l a) f = ap (Forall l) (place_at a (and_parts _ _ f).1)
     again_is nc nl (May i a) f = ap (May i) (place_at a (and_parts _ _ f).1)
@@ -140,25 +133,19 @@ module _ (c : Book) where
           known_from shown (show_node n) k (omega arith) (get_or-map show_node c.nodes k Bottom [] h ∙ ap show_node at)
 
       known_same : known shown (show_node n) ≡ known (texts c) (text whole)
-      known_same =
-          ⊎_elim
-          (λ t. t ∙ sym (shown_known t))
-          (λ f. f ∙ sym (⊎_elim (λ t. absurd (both_ways _ f (text_known t))) (λ g. g) (cases_Bool (known (texts c) (text whole)))))
-          (cases_Bool (known shown (show_node n)))
+      known_same = both_ways _ _ shown_known text_known
 
       pub lacks_same : lacks c.node_limit shown (show_node n) ≡ lacks c.node_limit (texts c) (text whole)
-      lacks_same =
-          let l : length shown ≡ length (texts c) = length-map c.nodes show_node ∙ sym texts_long in
-          let k = known_same in
-          λ i. cond (k i) false (cond (ltb (l i) c.node_limit) false true)
+      lacks_same = let l = length-map c.nodes show_node in let t = texts_long in let k = known_same in grind (arith, common_steps)
 
       -- the writings, where the node finds a place
       pub texts_noded : lacks c.node_limit shown (show_node n) ≡ false → texts (noded n c) ≡ with_name (texts c) (text whole)
       texts_noded room =
-          ⊎_elim
-          (λ t. ap (λ ns. map text (trees ns)) (cond-true (known shown (show_node n)) c.nodes _ t) ∙ sym (cond-true (known (texts c) (text whole)) (texts c) _ (sym known_same ∙ t)))
-          (λ f. ap (λ ns. map text (trees ns)) (noded_new c n room f) ∙ ap (map text) (trees_push c.nodes n) ∙ map_push text (trees c.nodes) whole ∙ sym (cond-false (known (texts c) (text whole)) (texts c) (texts c ++ text whole ∷ []) (sym known_same ∙ f)))
-          (cases_Bool (known shown (show_node n)))
+          let is = noded_is c n room in
+          let more = trees_push c.nodes n in
+          let long = map_push text (trees c.nodes) whole in
+          let k = known_same in
+          grind (arith, common_steps)
 
 -- more names leave the writings as they were
 pub texts_named : (b c : Book) → ordered (length b.classes) (length b.links) 0 b.nodes ≡ true → Front b.classes c.classes → Front b.links c.links → c.nodes ≡ b.nodes → texts c ≡ texts b

@@ -31,13 +31,32 @@ lacks limit ys y = cond (known ys y) false (cond (nat_lt (length ys) limit) fals
 abbrev pub placed : ℕ → List (List ℕ) → List ℕ → ℕ
 placed limit ys y = cond (lacks limit ys y) 0 (number ys y)
 
+-- by the sort of the name
+abbrev pub names_of : Sort → Book → List (List ℕ)
+names_of OfClass b = b.classes
+names_of OfLink b = b.links
+
+abbrev pub limit_of : Sort → Book → ℕ
+limit_of OfClass b = b.class_limit
+limit_of OfLink b = b.link_limit
+
+-- the book with that name put in where it fits
+abbrev pub with_class : List ℕ → Book → Book
+with_class w b = record { classes = keep b.class_limit b.classes w b.classes w; class_limit = b.class_limit; links = b.links; link_limit = b.link_limit; nodes = b.nodes; node_limit = b.node_limit; names_full = b.names_full; terms_full = b.terms_full }
+
+abbrev pub with_link : List ℕ → Book → Book
+with_link w b = record { classes = b.classes; class_limit = b.class_limit; links = keep b.link_limit b.links w b.links w; link_limit = b.link_limit; nodes = b.nodes; node_limit = b.node_limit; names_full = b.names_full; terms_full = b.terms_full }
+
+abbrev pub book_with : Sort → List ℕ → Book → Book
+book_with OfClass w b = with_class w b
+book_with OfLink w b = with_link w b
+
+-- and the flag raised where it found no place
 abbrev pub labelled : Sort → List ℕ → Book → Book
-labelled OfClass w b = record { classes = keep b.class_limit b.classes w b.classes w; class_limit = b.class_limit; links = b.links; link_limit = b.link_limit; nodes = b.nodes; node_limit = b.node_limit; names_full = b.names_full || lacks b.class_limit b.classes w; terms_full = b.terms_full }
-labelled OfLink w b = record { classes = b.classes; class_limit = b.class_limit; links = keep b.link_limit b.links w b.links w; link_limit = b.link_limit; nodes = b.nodes; node_limit = b.node_limit; names_full = b.names_full || lacks b.link_limit b.links w; terms_full = b.terms_full }
+labelled k w b = record { classes = (book_with k w b).classes; class_limit = b.class_limit; links = (book_with k w b).links; link_limit = b.link_limit; nodes = b.nodes; node_limit = b.node_limit; names_full = b.names_full || lacks (limit_of k b) (names_of k b) w; terms_full = b.terms_full }
 
 abbrev pub label_of : Sort → List ℕ → Book → ℕ
-label_of OfClass w b = placed b.class_limit b.classes w
-label_of OfLink w b = placed b.link_limit b.links w
+label_of k w b = placed (limit_of k b) (names_of k b) w
 
 abbrev pub noded : Node → Book → Book
 noded n b = record { classes = b.classes; class_limit = b.class_limit; links = b.links; link_limit = b.link_limit; nodes = keep b.node_limit (map show_node b.nodes) (show_node n) b.nodes n; node_limit = b.node_limit; names_full = b.names_full; terms_full = b.terms_full || lacks b.node_limit (map show_node b.nodes) (show_node n) }
@@ -51,12 +70,6 @@ Labels b k w i c = (c ≡ labelled k w b) × (i ≡ label_of k w b)
 abbrev pub Makes : Book → Node → ℕ → Book → Type 0
 Makes b n i c = (c ≡ noded n b) × (i ≡ node_of n b)
 
--- the book with that name put in where it fits
-abbrev pub with_class : List ℕ → Book → Book
-with_class w b = record { classes = keep b.class_limit b.classes w b.classes w; class_limit = b.class_limit; links = b.links; link_limit = b.link_limit; nodes = b.nodes; node_limit = b.node_limit; names_full = b.names_full; terms_full = b.terms_full }
-
-abbrev pub with_link : List ℕ → Book → Book
-with_link w b = record { classes = b.classes; class_limit = b.class_limit; links = keep b.link_limit b.links w b.links w; link_limit = b.link_limit; nodes = b.nodes; node_limit = b.node_limit; names_full = b.names_full; terms_full = b.terms_full }
-
+-- tables at rest, with both flags down
 abbrev pub book_of : Tables → Book
-book_of s = record { classes = map name_bytes (vec_items s.classes.items); class_limit = s.classes.limit; links = map name_bytes (vec_items s.links.items); link_limit = s.links.limit; nodes = vec_items s.nodes.items; node_limit = s.nodes.limit; names_full = s.names_full; terms_full = s.terms_full }
+book_of s = record { classes = map name_bytes (vec_items s.classes.items); class_limit = s.classes.limit; links = map name_bytes (vec_items s.links.items); link_limit = s.links.limit; nodes = vec_items s.nodes.items; node_limit = s.nodes.limit; names_full = false; terms_full = false }

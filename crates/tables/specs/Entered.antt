@@ -1,5 +1,5 @@
 -- The tables after a term was entered, and the term's number. Assumes nothing.
-use Rattle.std.specs.Prelude.{ℕ}
+use Rattle.std.specs.Prelude.{◌≡◌, ℕ}
 use Rattle.tables.specs.Book.{Book, labelled, label_of, noded, node_of}
 use Rattle.terms.specs.Term.{Spelled, top, bottom, class, neg, and, or, exists, forall, may, must}
 use Rattle.terms.specs.declared.nodes.Node.{Node}
@@ -25,3 +25,7 @@ entered (exists r t) b = let p = entered t (labelled OfLink r b) in made (Exists
 entered (forall r t) b = let p = entered t (labelled OfLink r b) in made (Forall (label_of OfLink r b) p.number) p.book
 entered (may i t) b = let p = entered t b in made (May i p.number) p.book
 entered (must i t) b = let p = entered t b in made (Must i p.number) p.book
+
+-- the term t, entered into b, left c and got the number i
+abbrev pub IsEntered : Spelled → Book → ℕ → Book → Type 0
+IsEntered t b i c = (c ≡ (entered t b).book) × (i ≡ (entered t b).number)

@@ -1,4 +1,5 @@
 pub mod Book
+pub mod Building
 pub mod Entered
 pub mod Enters
 pub mod Entry

@@ -1,22 +1,35 @@
-ghost use Rattle.std.specs.Prelude.{◌≡◌, ℕ, false, map, length, IfErr, Ok, Err, MatchResult};
+ghost use Rattle.std.specs.Prelude.{◌≡◌, ℕ, ◌⊎◌, map, length, IfErr, Ok, Err, MatchResult};
 ghost use Rattle.tables.specs.Book.{book_of};
+ghost use Rattle.tables.specs.Entered.{IsEntered};
 ghost use Rattle.tables.specs.Entry.{Entry};
-ghost use Rattle.tables.specs.Undo.{lowered, cut, Refuses};
+ghost use Rattle.tables.specs.Undo.{cut, Refuses, Lacks};
 ghost use Rattle.terms.specs.Term.{Spelled};
 ghost use Rattle.terms.specs.Told.{IsRead, IsRefused};
 ghost use Rattle.tables.specs.Enters.{Within, Orderly, Enters};
 ghost use Rattle.tables.specs.Texts.{entering};
 
+use crate::building::Building;
 use crate::tables::{Mark, Tables};
 use names::Refusal;
-use terms::{check, read};
+use terms::check;
 
 impl Tables {
-    // Reads a text as a term and enters its names and parts; the flags tell whether one that was new found no place.
+    // Reads a text as a term and enters its names and parts, as far as they find places.
     fn build(&mut self, text: &[u8]) -> Result<usize, Refusal>
-        ensures { MatchResult result (λ i. (t : Spelled) × IsRead text.now t × Entry t (book_of self.old) i (book_of self.new)) (λ e. IsRefused text.now e) }
+        ensures { MatchResult result (λ i. (t : Spelled) × IsRead text.now t × IsEntered t (book_of self.old) i (book_of self.new)) (λ e. IsRefused text.now e ⊎ Lacks text.now (book_of self.old) e (book_of self.new)) }
     {
-        let number = read(self, text)?;
+        let mut building = Building {
+            tables: self,
+            names_full: false,
+            terms_full: false,
+        };
+        let number = building.read_term(text)?;
+        if building.names_full {
+            return Err(Refusal::NamesFull);
+        }
+        if building.terms_full {
+            return Err(Refusal::TermsFull);
+        }
         Ok(number)
     }
 
@@ -25,14 +38,11 @@ impl Tables {
         ensures links { result.links ≡ length self.now.links.items.items }
         ensures nodes { result.nodes ≡ length self.now.nodes.items.items }
         ensures book { (result.classes ≡ length (book_of self.now).classes) × (result.links ≡ length (book_of self.now).links) × (result.nodes ≡ length (book_of self.now).nodes) }
-        ensures flags { (result.names_full ≡ self.now.names_full) × (result.terms_full ≡ self.now.terms_full) }
     {
         Mark {
             classes: self.classes.len(),
             links: self.links.len(),
             nodes: self.nodes.len(),
-            names_full: self.names_full,
-            terms_full: self.terms_full,
         }
     }
 
@@ -43,36 +53,21 @@ impl Tables {
         self.classes.truncate(mark.classes);
         self.links.truncate(mark.links);
         self.nodes.truncate(mark.nodes);
-        self.names_full = mark.names_full;
-        self.terms_full = mark.terms_full;
-    }
-
-    fn lower(&mut self)
-        ensures { book_of self.new ≡ lowered (book_of self.old) }
-    {
-        self.names_full = false;
-        self.terms_full = false;
     }
 
     // Reads a text as a term and enters its names and parts, each once: the term's number. A refusal leaves the tables as
     // they were.
     pub fn enter(&mut self, text: &[u8]) -> Result<usize, Refusal>
-        ensures steps { MatchResult result (λ i. (t : Spelled) × IsRead text.now t × Entry t (lowered (book_of self.old)) i (book_of self.new) × (self.new.names_full ≡ false) × (self.new.terms_full ≡ false)) (λ e. Refuses text.now (lowered (book_of self.old)) e × (book_of self.new ≡ book_of self.old)) }
+        ensures steps { MatchResult result (λ i. (t : Spelled) × IsRead text.now t × Entry t (book_of self.old) i (book_of self.new)) (λ e. Refuses text.now (book_of self.old) e × (book_of self.new ≡ book_of self.old)) }
         ensures law { Orderly (book_of self.old) → Within (book_of self.old) → MatchResult result (λ i. (t : Spelled) × IsRead text.now t × (entering (book_of self.old) text.now ≡ Ok t) × Enters (book_of self.old) t i (book_of self.new)) (λ e. entering (book_of self.old) text.now ≡ Err e) }
         ensures kept { IfErr result (λ e. book_of self.new ≡ book_of self.old) }
     {
         check(text)?;
         let mark = self.mark();
-        self.lower();
-        let number = self.build(text)?;
-        if self.names_full {
+        let entered = self.build(text);
+        if entered.is_err() {
             self.undo(mark);
-            return Err(Refusal::NamesFull);
         }
-        if self.terms_full {
-            self.undo(mark);
-            return Err(Refusal::TermsFull);
-        }
-        Ok(number)
+        entered
     }
 }
