@@ -6,7 +6,8 @@ use Rattle.std.proofs.lemmas.Bool.{cases_lt, or_cases, eqb-true, eq-eqb, lt-ltb}
 use Rattle.std.specs.Str.{bytes_eq}
 use Rattle.distinct.specs.Numbering.{number, known}
 use Rattle.glossary.proofs.Anys.{same_test, any_map}
-use Rattle.glossary.specs.Any.{any_of, is_in}
+use Rattle.std.specs.List.{list_any}
+use Rattle.glossary.specs.Any.{is_in}
 use Rattle.glossary.specs.Flags.{Bounded, reached}
 use Rattle.tables.proofs.Numbers.{number_at, with_known, with_front, all_front, front_long, front_number, front_trans, absent_at}
 use Rattle.tables.specs.Entry.{Front}
@@ -21,9 +22,9 @@ pub each_weaker : {X : Type 0} (P Q : X → Type 0) (xs : List X) → ((x : X) �
 each_weaker P Q [] f e = tt
 each_weaker P Q (x ∷ xs) f (e, es) = (f x e, each_weaker P Q xs f es)
 
-pub any_each : {X : Type 0} (p q : X → Bool) (xs : List X) → Each (λ x. p x ≡ q x) xs → any_of p xs ≡ any_of q xs
+pub any_each : {X : Type 0} (p q : X → Bool) (xs : List X) → Each (λ x. p x ≡ q x) xs → list_any p xs ≡ list_any q xs
 any_each p q [] e = refl
-any_each p q (x ∷ xs) (e, es) = ap (λ b. b || any_of p xs) e ∙ ap (λ b. q x || b) (any_each p q xs es)
+any_each p q (x ∷ xs) (e, es) = ap (λ b. b || list_any p xs) e ∙ ap (λ b. q x || b) (any_each p q xs es)
 
 -- w is one of the names
 abbrev pub Has : List (List ℕ) → List ℕ → Type 0
@@ -45,7 +46,7 @@ pub names_front : (xs : List (List ℕ)) (w : List ℕ) (ws : List (List ℕ)) �
 names_front xs w ws = front_trans xs (with_name xs w) (with_names (with_name xs w) ws) (with_front xs w) (all_front (with_name xs w) ws)
 
 pub below_all : (ys ws : List (List ℕ)) → Each (Has ys) ws → (e : ℕ) → is_in e (map (number ys) ws) ≡ true → e < length ys
-below_all ys [] h e i = let z : ◌≡◌ {A = ℕ} 0 1 = cc in absurd (omega arith)
+below_all ys [] h e i = absurd (cc)
 below_all ys (w ∷ ws) (h, hs) e i =
     ⊎_elim
     (λ here. let same = eqb-true (number ys w) e here in omega arith)
@@ -84,14 +85,14 @@ module _ (R : ℕ → ℕ → Bool) (xs ys : List (List ℕ)) (front : Front xs 
       (cases_lt (number xs v) (length xs))
 
   -- the circle that is sought on the names that were there is the one on the final numbers
-  pub circle_same : ((c d : ℕ) → length xs ≤ c → R c d ≡ false) → Bounded (length xs) R → (w : List ℕ) (ws : List (List ℕ)) → Has ys w → Each (Has ys) ws → reached R (map (number ys) ws) (number ys w) ≡ any_of (λ v. bytes_eq v w || R (number xs v) (number xs w)) ws
+  pub circle_same : ((c d : ℕ) → length xs ≤ c → R c d ≡ false) → Bounded (length xs) R → (w : List ℕ) (ws : List (List ℕ)) → Has ys w → Each (Has ys) ws → reached R (map (number ys) ws) (number ys w) ≡ list_any (λ v. bytes_eq v w || R (number xs v) (number xs w)) ws
   circle_same bare bounded w ws h hs =
       any_map (λ e. eqb e (number ys w) || R e (number ys w)) (number ys) ws
       ∙ any_each (λ v. eqb (number ys v) (number ys w) || R (number ys v) (number ys w)) (λ v. bytes_eq v w || R (number xs v) (number xs w)) ws
       (each_weaker (Has ys) (λ v. (eqb (number ys v) (number ys w) || R (number ys v) (number ys w)) ≡ (bytes_eq v w || R (number xs v) (number xs w))) ws (λ v k i. same_number ys v w k h i || final_flag bare bounded v w k h i) hs)
 
 -- what the known names of a term reach, where all are known
-pub reach_same : (R : ℕ → ℕ → Bool) (ys ws : List (List ℕ)) → Each (Has ys) ws → (f : ℕ) → any_of (λ v. known ys v && (eqb (number ys v) f || R (number ys v) f)) ws ≡ reached R (map (number ys) ws) f
+pub reach_same : (R : ℕ → ℕ → Bool) (ys ws : List (List ℕ)) → Each (Has ys) ws → (f : ℕ) → list_any (λ v. known ys v && (eqb (number ys v) f || R (number ys v) f)) ws ≡ reached R (map (number ys) ws) f
 reach_same R ys ws hs f =
     any_each (λ v. known ys v && (eqb (number ys v) f || R (number ys v) f)) (λ v. eqb (number ys v) f || R (number ys v) f) ws
     (each_weaker (Has ys) (λ v. (known ys v && (eqb (number ys v) f || R (number ys v) f)) ≡ (eqb (number ys v) f || R (number ys v) f)) ws (λ v h. ap (λ b. b && (eqb (number ys v) f || R (number ys v) f)) (lt-ltb (number ys v) (length ys) h)) hs)

@@ -1,5 +1,5 @@
 -- Whatever was called on a sheet, it holds the accepted lines, and the same calls come to the same. Assumes nothing.
-use Rattle.std.proofs.Common.{◌≡◌, ℕ, cond, List, ◌∷◌, map, is_ok, Ok, Err, Result, sym, refl, ◌∙◌, subst, arith}
+use Rattle.std.proofs.Common.{◌≡◌, cond, List, ◌∷◌, map, is_ok, Ok, Err, Result, sym, refl, ◌∙◌, subst}
 use Rattle.names.specs.declared.refusals.Fault.{Fault}
 use Rattle.sheet.specs.Content.{Content}
 use Rattle.sheet.specs.History.{Call, Event, Leads, nothing, next, outcome, accepted, Faithful, Repeatable}
@@ -20,8 +20,8 @@ faithful es k h = accepted_lead h
 -- one outcome, one answer, one content
 told_once : (o : Result Content Fault) (p q : Result (Unit {0}) Fault) (k i j : Content) → Told o p k i → Told o q k j → (p ≡ q) × (i ≡ j)
 told_once o (Ok u) (Ok v) k i j s t = (refl, (cc))
-told_once o (Ok u) (Err e) k i j s (t, b) = let z : ◌≡◌ {A = ℕ} 0 1 = cc in absurd (omega arith)
-told_once o (Err e) (Ok u) k i j (s, a) t = let z : ◌≡◌ {A = ℕ} 0 1 = cc in absurd (omega arith)
+told_once o (Ok u) (Err e) k i j s (t, b) = absurd (cc)
+told_once o (Err e) (Ok u) k i j (s, a) t = absurd (cc)
 told_once o (Err e) (Err f) k i j (s, a) (t, b) = ((cc), a ∙ sym b)
 
 told_same : (k k' : Content) (c d : Call) (p q : Result (Unit {0}) Fault) (i j : Content) → k ≡ k' → c ≡ d → Told (outcome k c) p k i → Told (outcome k' d) q k' j → (p ≡ q) × (i ≡ j)
@@ -30,8 +30,8 @@ told_same k k' c d p q i j e f s t =
 
 pub same_leads : {k l : Content} {es : List Event} → Leads k es l → {k' j : Content} {fs : List Event} → Leads k' fs j → k ≡ k' → map (λ e. e.call) es ≡ map (λ e. e.call) fs → (es ≡ fs) × (l ≡ j)
 same_leads nothing nothing e m = (refl, e)
-same_leads nothing (next t h) e m = let z : ◌≡◌ {A = ℕ} 0 1 = cc in absurd (omega arith)
-same_leads (next t h) nothing e m = let z : ◌≡◌ {A = ℕ} 0 1 = cc in absurd (omega arith)
+same_leads nothing (next t h) e m = absurd (cc)
+same_leads (next t h) nothing e m = absurd (cc)
 same_leads (next {k} {j = i} {e = a} {es} t h) (next {k = k'} {j} {e = b} {es = fs} u g) e m =
     let c : a.call ≡ b.call = cc in
     let rest : map (λ e. e.call) es ≡ map (λ e. e.call) fs = cc in

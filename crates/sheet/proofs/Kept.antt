@@ -1,12 +1,17 @@
 -- The vocabulary grows, and the rest of a sheet stays as it was. Assumes nothing.
-use Rattle.std.proofs.Common.{◌≡◌, ℕ, ◌<◌, ◌≤◌, true, ◌&&◌, ltb, List, [], ◌∷◌, map, length, Some, None, Option, refl, ap, arith}
-use Rattle.std.proofs.lemmas.Bool.{and_parts, and_from, ltb-true, lt-ltb}
+use Rattle.std.proofs.Common.{◌≡◌, ℕ, ◌<◌, ◌≤◌, Bool, true, ltb, List, [], ◌∷◌, map, length, Some, None, Ok, Err, Option, Result, sym, refl, ap, ◌∙◌, subst, arith}
+use Rattle.std.proofs.lemmas.Bool.{and_parts, ltb-true}
+use Rattle.std.proofs.lemmas.Bool.Decides.{nat_tests}
+use Rattle.std.proofs.lemmas.List.Sums.{AllPass-from_list_all, list_all-from_AllPass}
+use Rattle.std.specs.List.{list_all}
 use Rattle.std.specs.Option.{option_map}
+use Rattle.std.specs.Result.{IsErrAnd}
 use Rattle.glossary.proofs.Circles.{bounded_more, follows_same}
 use Rattle.glossary.specs.Refers.{mentioned}
-use Rattle.sheet.specs.Content.{stated}
+use Rattle.names.specs.declared.refusals.Fault.{Fault}
+use Rattle.sheet.specs.Content.{Content, stated}
 use Rattle.sheet.specs.Fair.{Fair, within}
-use Rattle.sheet.specs.Outcome.{mentions}
+use Rattle.sheet.specs.Outcome.{mentions, Told}
 use Rattle.sheet.specs.Store.{Store, asserted, content_of}
 use Rattle.sheet.specs.declared.line.Line.{Line}
 use Rattle.sheet.specs.declared.line.Line.TheVariants.{Statement, Tie}
@@ -21,20 +26,21 @@ use Rattle.vocabulary.specs.Held.{Held, InOrder, Grew, lexicon}
 abbrev pub over : Held → Store → Store
 over h s = record { held = h; gloss = s.gloss; refers = s.refers; lines = s.lines }
 
-less_more : (a m n : ℕ) → m ≤ n → ltb a m ≡ true → ltb a n ≡ true
-less_more a m n h t = let l = ltb-true a m t in lt-ltb a n (omega arith)
+-- a refusal that leaves the vocabulary as it was leaves the tables so
 
-pub within_more : (l i n l' i' n' : ℕ) (ls : List Line) → l ≤ l' → i ≤ i' → n ≤ n' → within l i n ls ≡ true → within l' i' n' ls ≡ true
-within_more l i n l' i' n' [] p q r t = refl
-within_more l i n l' i' n' (Statement a b ∷ ls) p q r t =
-    let x = and_parts (ltb a i && ltb b n) (within l i n ls) t in
-    let y = and_parts (ltb a i) (ltb b n) x.0 in
-    and_from (ltb a i' && ltb b n') (within l' i' n' ls) (and_from (ltb a i') (ltb b n') (less_more a i i' q y.0) (less_more b n n' r y.1)) (within_more l i n l' i' n' ls p q r x.1)
-within_more l i n l' i' n' (Tie k a b ∷ ls) p q r t =
-    let x = and_parts (ltb k l && (ltb a i && ltb b i)) (within l i n ls) t in
-    let y = and_parts (ltb k l) (ltb a i && ltb b i) x.0 in
-    let z = and_parts (ltb a i) (ltb b i) y.1 in
-    and_from (ltb k l' && (ltb a i' && ltb b i')) (within l' i' n' ls) (and_from (ltb k l') (ltb a i' && ltb b i') (less_more k l l' p y.0) (and_from (ltb a i') (ltb b i') (less_more a i i' q z.0) (less_more b i i' q z.1))) (within_more l i n l' i' n' ls p q r x.1)
+pub refused_fair : (s : Store) (h : Held) → Fair s → h ≡ s.held → Fair (over h s)
+refused_fair s h fair same = subst (λ k. Fair (over k s)) (sym same) fair
+
+pub refused_told : (s : Store) (h : Held) (o : Result Content Fault) (r : Result (Unit {0}) Fault) (e : Fault) → IsErrAnd r (λ d. d ≡ e) → o ≡ Err e → h ≡ s.held → Told o r (content_of s) (content_of (over h s))
+refused_told s h o (Ok x) e told refused same = absurd told
+refused_told s h o (Err d) e told refused same = (refused ∙ ap (λ x. Err x) (sym told), ap (λ k. content_of (over k s)) same)
+
+within_more : (l i n l' i' n' : ℕ) (line : Line) → l ≤ l' → i ≤ i' → n ≤ n' → within l i n line ≡ true → within l' i' n' line ≡ true
+within_more l i n l' i' n' (Statement a b) p q r t = grind (arith, nat_tests)
+within_more l i n l' i' n' (Tie k a b) p q r t = grind (arith, nat_tests)
+
+all_more : (p q : Line → Bool) → ((line : Line) → p line ≡ true → q line ≡ true) → (ls : List Line) → list_all p ls ≡ true → list_all q ls ≡ true
+all_more p q f ls t = list_all-from_AllPass q ls (λ k d l. f _ (AllPass-from_list_all p ls t k d l))
 
 -- the trees of glosses and lines stay, as nodes are put behind
 
@@ -42,17 +48,19 @@ pub gloss_stays : (ns ms : List Node) → Front ns ms → (o : Option ℕ) → (
 gloss_stays ns ms f None low = refl
 gloss_stays ns ms f (Some g) low = ap (λ u. Some u) (tree_stays ns ms g f (low g refl))
 
-pub lines_stay : (ns ms : List Node) → Front ns ms → (l i : ℕ) (ls : List Line) → within l i (length ns) ls ≡ true → map (asserted ms) ls ≡ map (asserted ns) ls
+line_stays : (ns ms : List Node) → Front ns ms → (l i : ℕ) (line : Line) → within l i (length ns) line ≡ true → asserted ms line ≡ asserted ns line
+line_stays ns ms f l i (Statement a b) t =
+    let x = and_parts (ltb a i) (ltb b (length ns)) t in
+    ap (stated a) (tree_stays ns ms b f (ltb-true b (length ns) x.1))
+line_stays ns ms f l i (Tie k a b) t = refl
+
+lines_stay : (ns ms : List Node) → Front ns ms → (l i : ℕ) (ls : List Line) → list_all (within l i (length ns)) ls ≡ true → map (asserted ms) ls ≡ map (asserted ns) ls
 lines_stay ns ms f l i [] t = refl
-lines_stay ns ms f l i (Statement a b ∷ ls) t =
-    let x = and_parts (ltb a i && ltb b (length ns)) (within l i (length ns) ls) t in
-    let y = and_parts (ltb a i) (ltb b (length ns)) x.0 in
-    let here = tree_stays ns ms b f (ltb-true b (length ns) y.1) in
+lines_stay ns ms f l i (line ∷ ls) t =
+    let x = and_parts (within l i (length ns) line) (list_all (within l i (length ns)) ls) t in
+    let here = line_stays ns ms f l i line x.0 in
     let rest = lines_stay ns ms f l i ls x.1 in
-    λ j. stated a (here j) ∷ rest j
-lines_stay ns ms f l i (Tie k a b ∷ ls) t =
-    let x = and_parts (ltb k l && (ltb a i && ltb b i)) (within l i (length ns) ls) t in
-    ap (λ rest. asserted ns (Tie k a b) ∷ rest) (lines_stay ns ms f l i ls x.1)
+    λ j. here j ∷ rest j
 
 module _ (s : Store) (h : Held) (fair : Fair s) (order : InOrder h) (grew : Grew s.held h) where
   glosses_stay : (c : ℕ) → option_map (tree h.book.nodes) (s.gloss c) ≡ option_map (tree s.held.book.nodes) (s.gloss c)
@@ -71,7 +79,7 @@ module _ (s : Store) (h : Held) (fair : Fair s) (order : InOrder h) (grew : Grew
         follows = follows_same (mentions (content_of s)) (mentions (content_of (over h s))) s.refers s.refers fair.follows (λ c. ap mentioned (glosses_stay c)) (λ c d. refl);
         loopless = fair.loopless;
         bounded = bounded_more (length h.book.classes) (length s.held.book.classes) s.refers fair.bounded classes;
-        lines = within_more (length s.held.book.links) (length s.held.items) (length s.held.book.nodes) (length h.book.links) (length h.items) (length h.book.nodes) s.lines links items nodes fair.lines;
+        lines = all_more _ _ (λ line t. within_more _ _ _ _ _ _ line links items nodes t) s.lines fair.lines;
       }
 
   pub kept_content : content_of (over h s) ≡ record { words = lexicon h; gloss = (content_of s).gloss; lines = (content_of s).lines }

@@ -1,13 +1,12 @@
 -- What was accepted keeps its number. Assumes nothing.
-use Rattle.std.proofs.Common.{◌≡◌, ℕ, Bool, true, false, cond, ◌&&◌, eqb, leb, List, [], ◌∷◌, ◌++◌, length, is_some, Some, Ok, Err, Option, Result, sym, refl, ap, ◌∙◌, subst, ⊎_elim, arith}
+use Rattle.std.proofs.Common.{◌≡◌, ℕ, Bool, true, false, cond, eqb, List, [], ◌∷◌, ◌++◌, length, is_some, Some, Ok, Err, Option, Result, sym, refl, ap, ◌∙◌, subst, ⊎_elim, arith}
 use Rattle.std.proofs.lemmas.Bool.{cases_Bool, cond-false, cond-true, eqb-true, ltb-false}
 use Rattle.distinct.specs.Numbering.{number, known}
 use Rattle.names.specs.declared.refusals.Fault.{Fault}
-use Rattle.names.specs.declared.refusals.Refusal.TheVariants.{NamesFull, TermsFull}
-use Rattle.sheet.proofs.Chains.{thus_ok, past, passed, same_ok}
-use Rattle.sheet.proofs.Glossed.{gloss_words_lem}
+use Rattle.sheet.proofs.Chains.{thus_ok, past, passed, same_ok, placed_is, term_is, gloss_is}
+use Rattle.sheet.proofs.Histories.{faithful, repeatable}
 use Rattle.sheet.specs.Content.{Assertion, stated, tied, Content, with_line}
-use Rattle.sheet.specs.History.{Call, gloss, state, tie, Event, Leads, nothing, next, outcome, Keeps, Lasting}
+use Rattle.sheet.specs.History.{Call, gloss, state, tie, Event, Leads, nothing, next, outcome, Keeps, Faithful, Repeatable, Lasting}
 use Rattle.sheet.specs.Outcome.{Told, glossed, circular, glossing, stating, tying}
 use Rattle.tables.proofs.Numbers.{with_front, with_known, all_front, front_refl, front_trans, front_number, number_below, number_new}
 use Rattle.tables.specs.Entry.{Front}
@@ -15,7 +14,7 @@ use Rattle.tables.specs.Texts.{parts}
 use Rattle.tables.specs.Vocabulary.{with_name, with_names, class_names, link_names}
 use Rattle.terms.specs.Term.{Term, Spelled}
 use Rattle.vocabulary.specs.Lexicon.{Lexicon, with_class, with_link, with_item, with_term}
-use Rattle.vocabulary.specs.Placing.{OfStatement, OfTie, at, name_in, term_in, place_if, place_link, place_item, place_term, gloss_words, state_words, tie_words}
+use Rattle.vocabulary.specs.Placing.{OfStatement, OfTie, name_in, term_in, place_if, place_link, place_item, place_term, gloss_words, state_words, tie_words}
 
 -- a vocabulary that grew
 
@@ -24,9 +23,6 @@ record More (k j : Lexicon) : Type 0 where
   links : Front k.links j.links
   items : Front k.items j.items
   terms : Front k.terms j.terms
-
-more_refl : (k : Lexicon) → More k k
-more_refl k = record { classes = front_refl k.classes; links = front_refl k.links; items = front_refl k.items; terms = front_refl k.terms }
 
 more_trans : (k j l : Lexicon) → More k j → More j l → More k l
 more_trans k j l m n =
@@ -47,12 +43,10 @@ more_term t k = record { classes = all_front k.classes (class_names t); links = 
 -- what was placed is what was to be placed
 
 placed_more : (b : Bool) (e : Fault) (k i j : Lexicon) → place_if b e i ≡ Ok j → More k i → More k j
-placed_more b e k i j h m = subst (More k) (same_ok i j (passed (Ok i) e j b h).1) m
+placed_more b e k i j h m = subst (More k) (placed_is b e i j h) m
 
 term_more : (t : Spelled) (k j : Lexicon) → place_term t k ≡ Ok j → More k j
-term_more t k j h =
-    let fits = leb (length (with_term t k).terms) 256 in
-    placed_more fits (at 3 TermsFull) k (with_term t k) j (passed (place_if fits (at 3 TermsFull) (with_term t k)) (at 3 NamesFull) j (leb (length (with_term t k).classes) 64 && leb (length (with_term t k).links) 16) h).1 (more_term t k)
+term_more t k j h = subst (More k) (term_is t k j h) (more_term t k)
 
 state_more : (k : Lexicon) (item term : List ℕ) (room : Bool) (y : OfStatement) → state_words k item term room ≡ Ok y → More k y.words
 state_more k item term room y e =
@@ -108,7 +102,7 @@ first_number xs w ws =
 kept_gloss : (g : ℕ → Option (Term ℕ)) (n : ℕ) (u : Term ℕ) → is_some (g n) ≡ false → (c : ℕ) (t : Term ℕ) → g c ≡ Some t → cond (eqb c n) (Some u) (g c) ≡ Some t
 kept_gloss g n u none c t e =
     ⊎_elim
-    (λ h. let m = ap is_some (sym e ∙ ap g (eqb-true c n h)) in let b : true ≡ false = m ∙ none in let z : ◌≡◌ {A = ℕ} 0 1 = cc in absurd (omega arith))
+    (λ h. let m = ap is_some (sym e ∙ ap g (eqb-true c n h)) in let b : true ≡ false = m ∙ none in absurd (cc))
     (λ h. cond-false (eqb c n) (Some u) (g c) h ∙ e)
     (cases_Bool (eqb c n))
 
@@ -120,7 +114,7 @@ gloss_keeps k j class term e =
     let (_, e₄) = past _ _ j (circular k w t) e₃ in
     let (p, o, e₅) = thus_ok (gloss_words k.words w t) _ j e₄ in
     let m = more_trans k.words (with_class w k.words) (with_term t (with_class w k.words)) (more_class w k.words) (more_term t (with_class w k.words)) in
-    let is = gloss_words_lem k.words w t p o in
+    let is = gloss_is k.words w t p o in
     let l = ap (λ x. x.words) is in
     let n : number k.words.classes w ≡ p.class = sym (first_number k.words.classes w (class_names t)) ∙ ap (λ x. x.class) is in
     let m' = subst (More k.words) l m in
@@ -156,5 +150,8 @@ leads_keep : {k j : Content} {es : List Event} → Leads k es j → Keeps k j
 leads_keep (nothing {k}) = keeps_refl k
 leads_keep (next {k} {j} {l} {e} {es} t m) = keeps_trans k j l (told_keeps e.call e.answer k j t) (leads_keep m)
 
-pub lasting : Lasting
+lasting : Lasting
 lasting es k j m = leads_keep m
+
+pub histories : Faithful × Repeatable × Lasting
+histories = (faithful, repeatable, lasting)

@@ -1,7 +1,5 @@
-pub mod Steps
 pub mod Chains
 pub mod CircleLaws
-pub mod Counting
 pub mod Finals
 pub mod Fresh
 pub mod Glossed
@@ -10,5 +8,4 @@ pub mod Kept
 pub mod Lasts
 pub mod Lined
 pub mod Loops
-pub mod Promises
 pub mod Props

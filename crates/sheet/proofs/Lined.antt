@@ -1,96 +1,71 @@
 -- One line more, and what that makes of a sheet. Assumes nothing.
-use Rattle.std.proofs.Common.{◌≡◌, ℕ, ◌+◌, ◌<◌, true, ◌&&◌, ltb, List, [], ◌∷◌, ◌++◌, map, length, Ok, Err, sym, refl, ap, ◌∙◌, arith}
+use Rattle.std.proofs.Common.{◌≡◌, ◌+◌, ◌-◌, true, cond, List, [], ◌∷◌, ◌++◌, map, length, Ok, Err, Result, sym, refl, ap, ◌∙◌, arith}
+use Rattle.std.proofs.lemmas.Bool.{and_from}
 use Rattle.std.proofs.lemmas.List.{map_push}
-use Rattle.std.proofs.lemmas.Bool.{and_parts, and_from, lt-ltb}
+use Rattle.std.proofs.lemmas.List.Folds.{list_all-append}
+use Rattle.std.proofs.lemmas.List.Sums.{sum_by-cons}
+use Rattle.std.specs.List.{list_all}
+use Rattle.std.specs.Result.{IsErrAnd}
 use Rattle.names.specs.declared.refusals.Fault.{Fault}
-use Rattle.sheet.proofs.Kept.{over, kept_fair, kept_content}
-use Rattle.sheet.specs.Content.{Content, stated, tied, with_line, statements, ties}
-use Rattle.sheet.specs.Counts.{statements_in}
+use Rattle.sheet.proofs.Kept.{over, kept_fair, kept_content, refused_told}
+use Rattle.sheet.specs.Content.{Content, with_line, statements, ties}
+use Rattle.sheet.specs.Counts.{is_statement, statements_in}
 use Rattle.sheet.specs.Fair.{Fair, within}
-use Rattle.sheet.specs.Outcome.{stating, tying}
+use Rattle.sheet.specs.Outcome.{Told}
 use Rattle.sheet.specs.Store.{Store, asserted, content_of}
 use Rattle.sheet.specs.declared.line.Line.{Line}
 use Rattle.sheet.specs.declared.line.Line.TheVariants.{Statement, Tie}
-use Rattle.terms.specs.Nodes.{tree}
 use Rattle.terms.specs.declared.nodes.Node.{Node}
 use Rattle.vocabulary.specs.Held.{Held, InOrder, Grew, lexicon}
-use Rattle.vocabulary.specs.Placing.{OfStatement, OfTie, thus, state_words, tie_words}
+use Rattle.vocabulary.specs.Placing.{thus}
 
--- the store with one line more
-abbrev pub lined : Line → Store → Store
-lined line s = record { held = s.held; gloss = s.gloss; refers = s.refers; lines = s.lines ++ line ∷ [] }
+-- the tables with a vocabulary that grew and one line more
+abbrev lined : Held → List Line → Store → Store
+lined h ls s = record { held = h; gloss = s.gloss; refers = s.refers; lines = ls }
 
-pub within_push : (l i n : ℕ) (ls ks : List Line) → within l i n ls ≡ true → within l i n ks ≡ true → within l i n (ls ++ ks) ≡ true
-within_push l i n [] ks t u = u
-within_push l i n (Statement a b ∷ ls) ks t u =
-    let x = and_parts (ltb a i && ltb b n) (within l i n ls) t in
-    and_from (ltb a i && ltb b n) (within l i n (ls ++ ks)) x.0 (within_push l i n ls ks x.1 u)
-within_push l i n (Tie k a b ∷ ls) ks t u =
-    let x = and_parts (ltb k l && (ltb a i && ltb b i)) (within l i n ls) t in
-    and_from (ltb k l && (ltb a i && ltb b i)) (within l i n (ls ++ ks)) x.0 (within_push l i n ls ks x.1 u)
-
-pub within_statement : (l i n a t : ℕ) → a < i → t < n → within l i n (Statement a t ∷ []) ≡ true
-within_statement l i n a t p q = and_from (ltb a i && ltb t n) true (and_from (ltb a i) (ltb t n) (lt-ltb a i p) (lt-ltb t n q)) refl
-
-pub within_tie : (l i n k a b : ℕ) → k < l → a < i → b < i → within l i n (Tie k a b ∷ []) ≡ true
-within_tie l i n k a b p q r =
-    and_from (ltb k l && (ltb a i && ltb b i)) true (and_from (ltb k l) (ltb a i && ltb b i) (lt-ltb k l p) (and_from (ltb a i) (ltb b i) (lt-ltb a i q) (lt-ltb b i r))) refl
-
-pub new_line : (s : Store) (line : Line) → Fair s → within (length s.held.book.links) (length s.held.items) (length s.held.book.nodes) (line ∷ []) ≡ true → Fair (lined line s) × (content_of (lined line s) ≡ with_line (content_of s).words (asserted s.held.book.nodes line) (content_of s))
-new_line s line fair t =
-    let lines = map_push (asserted s.held.book.nodes) s.lines line in (
+-- The vocabulary came to o, with y, for which F stands as the content, and the line for it was put behind the others.
+module _ (s : Store) (h : Held) (fair : Fair s) (order : InOrder h) (grew : Grew s.held h) (line : Line) (low : within (length h.book.links) (length h.items) (length h.book.nodes) line ≡ true) (ls : List Line) (more : ls ≡ s.lines ++ line ∷ []) where
+  pub line_fair : Fair (lined h ls s)
+  line_fair =
+      let old = kept_fair s h fair order grew in
+      let test = within (length h.book.links) (length h.items) (length h.book.nodes) in
       record {
-        held = fair.held;
-        glosses = fair.glosses;
-        plain = fair.plain;
-        follows = fair.follows;
-        loopless = fair.loopless;
-        bounded = fair.bounded;
-        lines = within_push (length s.held.book.links) (length s.held.items) (length s.held.book.nodes) s.lines (line ∷ []) fair.lines t;
-      },
-      λ i. record { words = lexicon s.held; gloss = (content_of s).gloss; lines = lines i },
-    )
+        held = old.held;
+        glosses = old.glosses;
+        plain = old.plain;
+        follows = old.follows;
+        loopless = old.loopless;
+        bounded = old.bounded;
+        lines = ap (list_all test) more ∙ list_all-append test s.lines (line ∷ []) ∙ and_from (list_all test s.lines) (list_all test (line ∷ [])) old.lines (and_from (test line) true low refl);
+      }
+
+  line_content : content_of (lined h ls s) ≡ with_line (lexicon h) (asserted h.book.nodes line) (content_of s)
+  line_content =
+      let lines = ap (map (asserted h.book.nodes)) more ∙ map_push (asserted h.book.nodes) s.lines line in
+      (λ i. record { words = lexicon h; gloss = (content_of (over h s)).gloss; lines = lines i })
+      ∙ ap (with_line (lexicon h) (asserted h.book.nodes line)) (kept_content s h fair order grew)
+
+  pub line_told : {Y : Type 0} (o : Result Y Fault) (F : Y → Content) (y : Y) → o ≡ Ok y → F y ≡ with_line (lexicon h) (asserted h.book.nodes line) (content_of s) → thus o (λ p. Ok (F p)) ≡ Ok (content_of (lined h ls s))
+  line_told o F y placed is = ap (λ r. thus r (λ p. Ok (F p))) placed ∙ ap (λ k. Ok k) (is ∙ sym line_content)
+
+-- a refusal is told as it came
+pub line_refused : {Y : Type 0} (s : Store) (h : Held) (o : Result Y Fault) (F : Y → Content) (r : Result (Unit {0}) Fault) (e : Fault) → IsErrAnd r (λ d. d ≡ e) → o ≡ Err e → h ≡ s.held → Told (thus o (λ p. Ok (F p))) r (content_of s) (content_of (over h s))
+line_refused s h o F r e told refused same = refused_told s h (thus o (λ p. Ok (F p))) r e told (ap (λ r. thus r (λ p. Ok (F p))) refused) same
 
 -- how many lines of each kind
 
-pub statements_in_lem : (ns : List Node) (ls : List Line) → statements (map (asserted ns) ls) ≡ statements_in ls
-statements_in_lem ns [] = refl
-statements_in_lem ns (Statement a t ∷ ls) = let h = statements_in_lem ns ls in omega arith
-statements_in_lem ns (Tie l a b ∷ ls) = statements_in_lem ns ls
+counted : (line : Line) (ls : List Line) → statements_in (line ∷ ls) ≡ cond (is_statement line) 1 0 + statements_in ls
+counted = sum_by-cons (λ line. cond (is_statement line) 1 0)
 
-pub ties_in : (ns : List Node) (ls : List Line) → ties (map (asserted ns) ls) + statements_in ls ≡ length ls
-ties_in ns [] = refl
-ties_in ns (Statement a t ∷ ls) = let h = ties_in ns ls in omega arith
-ties_in ns (Tie l a b ∷ ls) = let h = ties_in ns ls in omega arith
+pub statements_are : (ns : List Node) (ls : List Line) → statements (map (asserted ns) ls) ≡ statements_in ls
+statements_are ns [] = refl
+statements_are ns (Statement a t ∷ ls) = omega (arith, statements_are ns ls, counted (Statement a t) ls)
+statements_are ns (Tie l a b ∷ ls) = omega (arith, statements_are ns ls, counted (Tie l a b) ls)
 
--- a line over a vocabulary that grew
-both : (s : Store) (h : Held) (line : Line) → Fair s → InOrder h → Grew s.held h → within (length h.book.links) (length h.items) (length h.book.nodes) (line ∷ []) ≡ true → Fair (lined line (over h s)) × (content_of (lined line (over h s)) ≡ with_line (lexicon h) (asserted h.book.nodes line) (content_of s))
-both s h line fair order grew t =
-    let more = new_line (over h s) line (kept_fair s h fair order grew) t in
-    (more.0, more.1 ∙ ap (with_line (lexicon h) (asserted h.book.nodes line)) (kept_content s h fair order grew))
+all_are : (ns : List Node) (ls : List Line) → ties (map (asserted ns) ls) + statements_in ls ≡ length ls
+all_are ns [] = refl
+all_are ns (Statement a t ∷ ls) = omega (arith, all_are ns ls, counted (Statement a t) ls)
+all_are ns (Tie l a b ∷ ls) = omega (arith, all_are ns ls, counted (Tie l a b) ls)
 
-pub stated_content : (s : Store) (h : Held) (item term : List ℕ) (y : OfStatement) (a t : ℕ) → Fair s → InOrder h → Grew s.held h → state_words (content_of s).words item term (ltb (statements (content_of s).lines) 128) ≡ Ok y → y.words ≡ lexicon h → y.item ≡ a → a < length h.items → t < length h.book.nodes → y.term ≡ tree h.book.nodes t → Fair (record { held = h; gloss = s.gloss; refers = s.refers; lines = s.lines ++ Statement a t ∷ [] }) × (stating (content_of s) item term ≡ Ok (content_of (record { held = h; gloss = s.gloss; refers = s.refers; lines = s.lines ++ Statement a t ∷ [] })))
-stated_content s h item term y a t fair order grew o words at low below reads =
-    let more = both s h (Statement a t) fair order grew (within_statement (length h.book.links) (length h.items) (length h.book.nodes) a t low below) in (
-      more.0,
-      ap (λ r. thus r (λ p. Ok (with_line p.words (stated p.item p.term) (content_of s)))) o
-          ∙ (λ i. Ok (with_line (words i) (stated (at i) (reads i)) (content_of s)))
-          ∙ ap (λ k. Ok k) (sym more.1),
-    )
-
-pub tied_content : (s : Store) (h : Held) (link from to : List ℕ) (y : OfTie) (l a b : ℕ) → Fair s → InOrder h → Grew s.held h → tie_words (content_of s).words link from to (ltb (ties (content_of s).lines) 64) ≡ Ok y → y.words ≡ lexicon h → y.link ≡ l → y.from ≡ a → y.to ≡ b → l < length h.book.links → a < length h.items → b < length h.items → Fair (record { held = h; gloss = s.gloss; refers = s.refers; lines = s.lines ++ Tie l a b ∷ [] }) × (tying (content_of s) link from to ≡ Ok (content_of (record { held = h; gloss = s.gloss; refers = s.refers; lines = s.lines ++ Tie l a b ∷ [] })))
-tied_content s h link from to y l a b fair order grew o words by out in' p q r =
-    let more = both s h (Tie l a b) fair order grew (within_tie (length h.book.links) (length h.items) (length h.book.nodes) l a b p q r) in (
-      more.0,
-      ap (λ r. thus r (λ p. Ok (with_line p.words (tied p.link p.from p.to) (content_of s)))) o
-          ∙ (λ i. Ok (with_line (words i) (tied (by i) (out i) (in' i)) (content_of s)))
-          ∙ ap (λ k. Ok k) (sym more.1),
-    )
-
--- a refusal is told as it came
-
-pub stated_refused : (k : Content) (item term : List ℕ) (e : Fault) → state_words k.words item term (ltb (statements k.lines) 128) ≡ Err e → stating k item term ≡ Err e
-stated_refused k item term e o = ap (λ r. thus r (λ p. Ok (with_line p.words (stated p.item p.term) k))) o
-
-pub tied_refused : (k : Content) (link from to : List ℕ) (e : Fault) → tie_words k.words link from to (ltb (ties k.lines) 64) ≡ Err e → tying k link from to ≡ Err e
-tied_refused k link from to e o = ap (λ r. thus r (λ p. Ok (with_line p.words (tied p.link p.from p.to) k))) o
+pub ties_are : (ns : List Node) (ls : List Line) → ties (map (asserted ns) ls) ≡ length ls - statements_in ls
+ties_are ns ls = let h = all_are ns ls in omega arith

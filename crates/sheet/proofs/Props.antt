@@ -3,7 +3,8 @@ use mathlib.Core.Logic.{∥∥₁_elim}
 use denote.Struct.Props.{props}
 use Rattle.vocabulary.proofs.Props.{in_order_prop}
 use Rattle.sheet.specs.Fair.{Fair}
-use Rattle.sheet.specs.Store.{Store}
+use Rattle.sheet.specs.Store.{Store, store_of}
+use Rattle.sheet.specs.declared.sheets.Sheet.{Sheet}
 
 pub fair_prop : (s : Store) → IsProp (Fair s)
 fair_prop s x y =
@@ -18,5 +19,5 @@ fair_prop s x y =
       lines = (let p : IsProp (_) = hlevel props in p) x.lines y.lines i;
     }
 
-pub fair_of : (s : Store) → ∥ Fair s ∥₁ → Fair s
-fair_of s e = ∥∥₁_elim e (fair_prop s) (λ f. f)
+pub fair_of : (s : Sheet) → Fair (store_of s.page)
+fair_of s = ∥∥₁_elim s.fair (fair_prop (store_of s.page)) (λ f. f)

@@ -4,6 +4,5 @@ pub mod Outcome
 pub mod Circles
 pub mod Store
 pub mod Fair
-pub mod Kept
 pub mod History
 pub mod Holds

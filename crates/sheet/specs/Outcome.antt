@@ -3,14 +3,15 @@
 use Rattle.std.specs.Prelude.{◌≡◌, ℕ, Bool, cond, ◌||◌, List, is_some, Ok, Err, Result, MatchResult, nat_lt}
 use Rattle.std.specs.Str.{bytes_eq}
 use Rattle.distinct.specs.Numbering.{number}
-use Rattle.glossary.specs.Any.{any_of}
+use Rattle.std.specs.List.{list_any}
 use Rattle.glossary.specs.Refers.{mentioned, refers_within}
 use Rattle.names.specs.declared.refusals.Fault.{Fault}
 use Rattle.names.specs.declared.refusals.Refusal.TheVariants.{GlossedAlready, Circle}
 use Rattle.sheet.specs.Content.{Content, stated, tied, defined, with_line, statements, ties}
 use Rattle.tables.specs.Vocabulary.{class_names}
 use Rattle.terms.specs.Term.{Spelled}
-use Rattle.vocabulary.specs.Placing.{thus, at, name_in, term_in, gloss_words, state_words, tie_words}
+use Rattle.names.specs.Refusal.{at}
+use Rattle.vocabulary.specs.Placing.{thus, name_in, term_in, gloss_words, state_words, tie_words}
 
 -- the classes that the gloss of class c mentions
 abbrev pub mentions : Content → ℕ → List ℕ
@@ -20,7 +21,7 @@ mentions k c = mentioned (k.gloss c)
 -- 64 classes, so a way without a circle goes through at most 64 glosses. `Circles.antt` has the law above this test.
 abbrev pub circular : Content → List ℕ → Spelled → Bool
 circular k w t =
-    any_of (λ v. bytes_eq v w || refers_within 64 (mentions k) (number k.words.classes v) (number k.words.classes w)) (class_names t)
+    list_any (λ v. bytes_eq v w || refers_within 64 (mentions k) (number k.words.classes v) (number k.words.classes w)) (class_names t)
 
 -- the class has a gloss
 abbrev pub glossed : Content → List ℕ → Bool

@@ -10,9 +10,9 @@ use crate::lines::Lines;
 use crate::pages::Page;
 use crate::sheets::Sheet;
 use glossary::Glossary;
-use names::Fault;
+use names::{Fault, Refusal};
 use std::alloc::{AllocError, Global};
-use vocabulary::Vocabulary;
+use vocabulary::{Vocabulary, name_in};
 
 impl Sheet {
     // An empty sheet, with memory for all that it may hold: giving it lines wants no more.
@@ -34,20 +34,37 @@ impl Sheet {
         ensures told { Told (glossing (holds self.old) class.now term.now) result (holds self.old) (holds self.new) }
         ensures circles { ((t : Spelled) → CircleLaw (holds self.old) class.now t) × NoCircle (holds self.new) }
     {
-        self.page.gloss(class, term)
+        let name = name_in(2, class)?;
+        let circle = self.page.makes_circle(&name, term)?;
+        if self.page.has_gloss(&name) {
+            return Err(Refusal::GlossedAlready.in_field(2));
+        }
+        if circle {
+            return Err(Refusal::Circle.in_field(3));
+        }
+        let placed = self.page.vocabulary.gloss(name, term)?;
+        let reach = self.page.reach_of(term);
+        self.page.glossary.define(placed.class, placed.term, &reach);
+        Ok(())
     }
 
     // States a term of an item.
     pub fn state(&mut self, item: &[u8], term: &[u8]) -> Result<(), Fault>
         ensures told { Told (stating (holds self.old) item.now term.now) result (holds self.old) (holds self.new) }
     {
-        self.page.state(item, term)
+        let room = self.page.lines.statement_fits();
+        let placed = self.page.vocabulary.statement(item, term, room)?;
+        self.page.lines.add(placed.into());
+        Ok(())
     }
 
     // Ties two items by a link.
     pub fn tie(&mut self, link: &[u8], from: &[u8], to: &[u8]) -> Result<(), Fault>
         ensures told { Told (tying (holds self.old) link.now from.now to.now) result (holds self.old) (holds self.new) }
     {
-        self.page.tie(link, from, to)
+        let room = self.page.lines.tie_fits();
+        let placed = self.page.vocabulary.tie(link, from, to, room)?;
+        self.page.lines.add(placed.into());
+        Ok(())
     }
 }

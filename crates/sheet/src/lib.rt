@@ -5,7 +5,6 @@ mod calls;
 mod glossing;
 mod line;
 mod lines;
-mod lining;
 mod listing;
 mod pages;
 mod queries;

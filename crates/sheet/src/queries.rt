@@ -3,7 +3,8 @@ ghost use Rattle.names.specs.declared.refusals.Refusal.TheVariants.{NoMemory};
 ghost use Rattle.sheet.specs.Holds.{holds};
 ghost use Rattle.vocabulary.specs.Entries.{Queried};
 ghost use Rattle.vocabulary.specs.Held.{held_by};
-ghost use Rattle.vocabulary.specs.Placing.{at, query_words, spelling};
+ghost use Rattle.names.specs.Refusal.{at};
+ghost use Rattle.vocabulary.specs.Placing.{query_words, spelling};
 
 use crate::sheets::Sheet;
 use names::Fault;
@@ -12,10 +13,10 @@ use vocabulary::Query;
 
 impl Sheet {
     // Reads an item and a term that are asked about. Names and terms that are new have their numbers in the query alone.
-    pub fn query(&self, heap: Global, item: &[u8], term: &[u8]) -> Result<Query, Fault>
+    pub fn query(&self, item: &[u8], term: &[u8]) -> Result<Query, Fault>
         ensures { MatchResult result (λ q. Queried (query_words (holds self.now).words item.now term.now) q.item q.term (held_by self.now.page.vocabulary.words) (held_by q.vocabulary.words)) (λ e. (e ≡ at 0 NoMemory) ⊎ (query_words (holds self.now).words item.now term.now ≡ Err e)) }
     {
-        self.page.vocabulary.query(heap, item, term)
+        self.page.vocabulary.query(item, term)
     }
 
     // Reads a term as a query's and writes it into a buffer, from its start on: the length. A refusal leaves the buffer as

@@ -1,30 +1,33 @@
 -- What putting a name or a term into the tables makes of the vocabulary. Assumes nothing.
-use Rattle.std.proofs.Common.{◌≡◌, ℕ, ◌<◌, ◌≤◌, true, false, leb, List, map, length, Some, None, Ok, Err, sym, refl, ap, ◌∙◌, subst, arith}
-use Rattle.std.proofs.lemmas.Bool.{cond-true, cond-false, leb-true, lt-leb, ltb-true}
+use Rattle.std.proofs.Common.{◌≡◌, ℕ, ◌<◌, ◌≤◌, true, leb, List, map, length, vec_items, Option, Some, None, Ok, ok_or, sym, refl, ap, ◌∙◌, subst, arith}
+use Rattle.std.proofs.lemmas.Bool.{cond-true, cond-false, lt-leb, ltb-true}
 use Rattle.distinct.specs.Numbering.{Apart, number, added, entered}
 use Rattle.names.specs.Name.{legal}
 use Rattle.names.specs.declared.named.Name.{Name}
 use Rattle.names.specs.declared.refusals.Refusal.TheVariants.{NamesFull}
-use Rattle.tables.proofs.Adding.{added_some, entered_shows}
+use Rattle.tables.proofs.Adding.{added_some, keep_none, entered_shows}
 use Rattle.tables.proofs.Behind.{apart_with}
-use Rattle.tables.proofs.Fronts.{keep_front, class_fronts, link_fronts}
-use Rattle.tables.proofs.Numbers.{front_refl, front_trans, keep_is, label_is, with_known}
-use Rattle.tables.proofs.OneName.{none_fits, some_fits, class_sound, link_sound}
-use Rattle.tables.specs.Book.{Book, keep, with_class, with_link}
-use Rattle.tables.specs.Entry.{Front}
+use Rattle.tables.proofs.Fronts.{Fronts, Limits, keep_front, name_fronts}
+use Rattle.tables.proofs.Numbers.{front_refl, front_trans, keep_is, label_is, with_fits, with_known}
+use Rattle.tables.proofs.OneName.{none_fits, some_fits, name_sound, name_none}
+use Rattle.tables.specs.Book.{Book, keep, book_of, book_with, names_of, limit_of}
+use Rattle.tables.specs.Enters.{Orderly, Within}
+use Rattle.tables.specs.Texts.{texts}
 use Rattle.tables.specs.Vocabulary.{with_name}
 use Rattle.terms.specs.Nodes.{name_bytes}
+use Rattle.terms.specs.declared.nodes.Sort.{Sort}
+use Rattle.terms.specs.declared.nodes.Sort.TheVariants.{OfClass, OfLink}
 use Rattle.vocabulary.specs.Entries.{IsNumber}
-use Rattle.vocabulary.specs.Held.{Held, Grew, Placed, lexicon}
-use Rattle.vocabulary.specs.Placing.{at, place_class, place_link, place_item}
+use Rattle.vocabulary.specs.Held.{Held, InOrder, Grew, Placed, held_by, lexicon}
+use Rattle.vocabulary.specs.Lexicon.{Lexicon}
+use Rattle.names.specs.Refusal.{at}
+use Rattle.vocabulary.specs.Placing.{place_if, place_name, place_item}
+use Rattle.vocabulary.specs.declared.words.Words.{Words}
 
--- with another book, with other items
+-- with another book
 
 abbrev pub with_book : Held → Book → Held
 with_book h b = record { book = b; items = h.items; item_limit = h.item_limit }
-
-abbrev pub with_items : Held → List (List ℕ) → ℕ → Held
-with_items h xs l = record { book = h.book; items = xs; item_limit = l }
 
 pub grew_refl : (h : Held) → Grew h h
 grew_refl h = record { classes = front_refl h.book.classes; links = front_refl h.book.links; nodes = front_refl h.book.nodes; items = front_refl h.items; class_limit = refl; link_limit = refl; node_limit = refl; item_limit = refl }
@@ -42,120 +45,90 @@ grew_trans h i j p q =
       item_limit = q.item_limit ∙ p.item_limit;
     }
 
--- a name with a place, and one without, among xs with the limit n, which is the number m
+-- a book that begins with that of h
 
-fits : (xs : List (List ℕ)) (n m : ℕ) (w : List ℕ) (i : ℕ) → n ≡ m → length xs ≤ n → added xs n w ≡ Some i → leb (length (with_name xs w)) m ≡ true
-fits xs n m w i e r a = subst (λ l. leb (length (with_name xs w)) l ≡ true) e (some_fits xs n w i r a)
+pub grew_book : (h : Held) (b : Book) → Fronts h.book b → Limits h.book b → Grew h (with_book h b)
+grew_book h b f l = record { classes = f.classes; links = f.links; nodes = f.nodes; items = front_refl h.items; class_limit = l.classes; link_limit = l.links; node_limit = l.nodes; item_limit = refl }
 
-full : (xs : List (List ℕ)) (n m : ℕ) (w : List ℕ) → n ≡ m → added xs n w ≡ None → leb (length (with_name xs w)) m ≡ false
-full xs n m w e a = let h = ltb-true n (length (with_name xs w)) (none_fits xs n w a) in lt-leb (length (with_name xs w)) m (omega arith)
+pub in_order_book : (h : Held) (b : Book) → InOrder h → Orderly b → Within b → Limits h.book b → InOrder (with_book h b)
+in_order_book h b o sound room l = record { sound = sound; room = room; items = o.items; few = o.few; class_limit = l.classes ∙ o.class_limit; link_limit = l.links ∙ o.link_limit; node_limit = l.nodes ∙ o.node_limit; item_limit = o.item_limit }
+
+-- a name put in among xs, whose limit n is the number m
 
 number_is : (xs ys : List (List ℕ)) (w : List ℕ) (i : ℕ) → ys ≡ with_name xs w → i ≡ number ys w → IsNumber i ys w
 number_is xs ys w i e n = (subst (λ k. k < length ys) (sym n) (subst (λ zs. number zs w < length zs) (sym e) (with_known xs w)), n)
 
-module _ (f : ℕ) (w : List ℕ) (h : Held) where
-  -- a class
-
-  class_grew : Grew h (with_book h (with_class w h.book))
-  class_grew = let p = class_fronts w h.book in record { classes = p.classes; links = p.links; nodes = p.nodes; items = front_refl h.items; class_limit = refl; link_limit = refl; node_limit = refl; item_limit = refl }
-
-  class_some : (i : ℕ) → legal w ≡ true → added h.book.classes h.book.class_limit w ≡ Some i → Placed (place_class f w (lexicon h)) (Ok i) (λ j k. IsNumber j k.book.classes w) h (with_book h (with_class w h.book))
-  class_some i l e =
+module _ (f : ℕ) (w : List ℕ) (xs ys : List (List ℕ)) (n m : ℕ) (limit : n ≡ m) (few : length xs ≤ n) (is : ys ≡ keep n xs w xs w) where
+  named : (h h' : Held) (P : ℕ → Held → Type 0) (k : Lexicon) (o : Option ℕ) → Grew h h' → (ys ≡ with_name xs w → k ≡ lexicon h') → ((i : ℕ) → IsNumber i ys w → P i h') → added xs n w ≡ o → Placed (place_if (leb (length (with_name xs w)) m) (at f NamesFull) k) (ok_or o (at f NamesFull)) P h h'
+  named h h' P k (Some i) g same p e =
+      let (free, num) = added_some n xs w i (sym e) in
+      let it : ys ≡ with_name xs w = is ∙ keep_is n xs w free in
       record {
-        grew = class_grew;
-        told = λ o.
-            let (sound, room, is, num, same) = class_sound h.book w i o.sound o.room l e in (
-              record { sound = sound; room = room; items = o.items; few = o.few; class_limit = o.class_limit; link_limit = o.link_limit; node_limit = o.node_limit; item_limit = o.item_limit },
-              cond-true (leb (length (with_name h.book.classes w)) 64) _ _ (fits h.book.classes h.book.class_limit 64 w i o.class_limit o.room.classes e)
-                  ∙ (let p = sym is in let q = sym same in λ k. Ok (record { classes = p k; links = h.book.links; items = h.items; terms = q k })),
-              number_is h.book.classes (with_class w h.book).classes w i is num,
-            );
+        grew = g;
+        told = (
+          cond-true (leb (length (with_name xs w)) m) _ _ (subst (λ l. leb (length (with_name xs w)) l ≡ true) limit (some_fits xs n w i few e)) ∙ ap Ok (same it),
+          p i (number_is xs ys w i it (num ∙ label_is n xs w free ∙ ap (λ zs. number zs w) (sym it))),
+        );
       }
+  named h h' P k None g same p e =
+      let over = ltb-true n (length (with_name xs w)) (none_fits xs n w e) in
+      record { grew = g; told = cond-false (leb (length (with_name xs w)) m) _ _ (lt-leb (length (with_name xs w)) m (omega arith)) }
 
-  pub class_placed : (i : ℕ) (b : Book) → legal w ≡ true → added h.book.classes h.book.class_limit w ≡ Some i → b ≡ with_class w h.book → Placed (place_class f w (lexicon h)) (Ok i) (λ j k. IsNumber j k.book.classes w) h (with_book h b)
-  class_placed i b l e is = subst (λ c. Placed (place_class f w (lexicon h)) (Ok i) (λ j k. IsNumber j k.book.classes w) h (with_book h c)) (sym is) (class_some i l e)
+-- a class or a link put in, or an item
 
-  pub class_full : (b : Book) → added h.book.classes h.book.class_limit w ≡ None → b ≡ with_class w h.book → Placed (place_class f w (lexicon h)) (Err (at f NamesFull)) (λ j k. IsNumber j k.book.classes w) h (with_book h b)
-  class_full b e is =
-      record {
-        grew = subst (λ c. Grew h (with_book h c)) (sym is) class_grew;
-        told = λ o. cond-false (leb (length (with_name h.book.classes w)) 64) _ _ (full h.book.classes h.book.class_limit 64 w o.class_limit e);
-      }
+name_limits : (k : Sort) (w : List ℕ) (b : Book) → Limits b (book_with k w b)
+name_limits OfClass w b = record { classes = refl; links = refl; nodes = refl }
+name_limits OfLink w b = record { classes = refl; links = refl; nodes = refl }
 
-  -- a link
+abbrev pub with_name_of : Sort → List ℕ → Held → Held
+with_name_of k w h = with_book h (book_with k w h.book)
 
-  link_grew : Grew h (with_book h (with_link w h.book))
-  link_grew = let p = link_fronts w h.book in record { classes = p.classes; links = p.links; nodes = p.nodes; items = front_refl h.items; class_limit = refl; link_limit = refl; node_limit = refl; item_limit = refl }
+abbrev pub with_item : List ℕ → Held → Held
+with_item w h = record { book = h.book; items = keep h.item_limit h.items w h.items w; item_limit = h.item_limit }
 
-  link_some : (i : ℕ) → legal w ≡ true → added h.book.links h.book.link_limit w ≡ Some i → Placed (place_link f w (lexicon h)) (Ok i) (λ j k. IsNumber j k.book.links w) h (with_book h (with_link w h.book))
-  link_some i l e =
-      record {
-        grew = link_grew;
-        told = λ o.
-            let (sound, room, is, num, same) = link_sound h.book w i o.sound o.room l e in (
-              record { sound = sound; room = room; items = o.items; few = o.few; class_limit = o.class_limit; link_limit = o.link_limit; node_limit = o.node_limit; item_limit = o.item_limit },
-              cond-true (leb (length (with_name h.book.links w)) 16) _ _ (fits h.book.links h.book.link_limit 16 w i o.link_limit o.room.links e)
-                  ∙ (let p = sym is in let q = sym same in λ k. Ok (record { classes = h.book.classes; links = p k; items = h.items; terms = q k })),
-              number_is h.book.links (with_link w h.book).links w i is num,
-            );
-      }
+-- what adding a name to the items leaves
+pub item_added : (w : Words) (x : Name) (ys : List Name) (n : ℕ) → ys ≡ entered name_bytes (vec_items w.items.items) w.items.limit x → n ≡ w.items.limit → record { book = book_of w.tables; items = map name_bytes ys; item_limit = n } ≡ with_item (name_bytes x) (held_by w)
+item_added w x ys n e l = let is = ap (map name_bytes) e ∙ entered_shows name_bytes w.items.limit (vec_items w.items.items) x in λ k. record { book = book_of w.tables; items = is k; item_limit = l k }
 
-  pub link_placed : (i : ℕ) (b : Book) → legal w ≡ true → added h.book.links h.book.link_limit w ≡ Some i → b ≡ with_link w h.book → Placed (place_link f w (lexicon h)) (Ok i) (λ j k. IsNumber j k.book.links w) h (with_book h b)
-  link_placed i b l e is = subst (λ c. Placed (place_link f w (lexicon h)) (Ok i) (λ j k. IsNumber j k.book.links w) h (with_book h c)) (sym is) (link_some i l e)
+module _ (w : List ℕ) (h : Held) (order : InOrder h) where
+  grown : (k : Sort) → Grew h (with_name_of k w h)
+  grown k = grew_book h (book_with k w h.book) (name_fronts k w h.book) (name_limits k w h.book)
 
-  pub link_full : (b : Book) → added h.book.links h.book.link_limit w ≡ None → b ≡ with_link w h.book → Placed (place_link f w (lexicon h)) (Err (at f NamesFull)) (λ j k. IsNumber j k.book.links w) h (with_book h b)
-  link_full b e is =
-      record {
-        grew = subst (λ c. Grew h (with_book h c)) (sym is) link_grew;
-        told = λ o. cond-false (leb (length (with_name h.book.links w)) 16) _ _ (full h.book.links h.book.link_limit 16 w o.link_limit e);
-      }
+  -- another book in order, whose terms are written as they were
 
-  -- an item, among items that are left as `add` leaves them
+  abbrev Follows : Book → Type 0
+  Follows b = Orderly b × Within b × (texts b ≡ texts h.book)
 
-  module _ (xs : List (List ℕ)) (n : ℕ) (is : xs ≡ keep h.item_limit h.items w h.items w) (limit : n ≡ h.item_limit) where
-    item_grew : Grew h (with_items h xs n)
-    item_grew = record { classes = front_refl h.book.classes; links = front_refl h.book.links; nodes = front_refl h.book.nodes; items = subst (Front h.items) (sym is) (keep_front h.item_limit h.items w h.items w); class_limit = refl; link_limit = refl; node_limit = refl; item_limit = limit }
+  follows : (k : Sort) (o : Option ℕ) → legal w ≡ true → added (names_of k h.book) (limit_of k h.book) w ≡ o → Follows (book_with k w h.book)
+  follows k (Some i) l e = let (sound, room, is, num, same) = name_sound k h.book w i order.sound order.room l e in (sound, room, same)
+  follows k None l e = subst Follows (sym (name_none k h.book w e)) (order.sound, order.room, refl)
 
-    item_placed : (i : ℕ) → added h.items h.item_limit w ≡ Some i → Placed (place_item f w (lexicon h)) (Ok i) (λ j k. IsNumber j k.items w) h (with_items h xs n)
-    item_placed i e =
-        let (placed, num) = added_some h.item_limit h.items w i (sym e) in
-        let same : xs ≡ with_name h.items w = is ∙ keep_is h.item_limit h.items w placed in
-        record {
-          grew = item_grew;
-          told = λ o.
-              let fit = fits h.items h.item_limit 32 w i o.item_limit (subst (λ l. length h.items ≤ l) (sym o.item_limit) o.few) e in (
-                record {
-                  sound = o.sound;
-                  room = o.room;
-                  items = subst Apart (sym same) (apart_with h.items w o.items);
-                  few = subst (λ ys. length ys ≤ 32) (sym same) (leb-true (length (with_name h.items w)) 32 fit);
-                  class_limit = o.class_limit;
-                  link_limit = o.link_limit;
-                  node_limit = o.node_limit;
-                  item_limit = limit ∙ o.item_limit;
-                },
-                cond-true (leb (length (with_name h.items w)) 32) _ _ fit ∙ ap (λ ys. Ok (record { classes = h.book.classes; links = h.book.links; items = ys; terms = (lexicon h).terms })) (sym same),
-                number_is h.items xs w i same (num ∙ label_is h.item_limit h.items w placed ∙ ap (λ ys. number ys w) (sym same)),
-              );
-        }
+  item_follows : (o : Option ℕ) → added h.items h.item_limit w ≡ o → Apart (with_item w h).items × (length (with_item w h).items ≤ h.item_limit)
+  item_follows (Some i) e =
+      let free = (added_some h.item_limit h.items w i (sym e)).0 in
+      subst (λ xs. Apart xs × (length xs ≤ h.item_limit)) (sym (keep_is h.item_limit h.items w free)) (apart_with h.items w order.items, with_fits h.item_limit h.items w free (omega (arith, order.few, order.item_limit)))
+  item_follows None e = subst (λ xs. Apart xs × (length xs ≤ h.item_limit)) (sym (keep_none h.item_limit h.items w e)) (order.items, omega (arith, order.few, order.item_limit))
 
-    item_full : added h.items h.item_limit w ≡ None → Placed (place_item f w (lexicon h)) (Err (at f NamesFull)) (λ j k. IsNumber j k.items w) h (with_items h xs n)
-    item_full e =
-        record {
-          grew = item_grew;
-          told = λ o. cond-false (leb (length (with_name h.items w)) 32) _ _ (full h.items h.item_limit 32 w o.item_limit e);
-        }
+  -- what was in order still is
 
--- what adding to a table of items answers and leaves
-module _ (f : ℕ) (b : Book) (xs ys : List Name) (l n : ℕ) (x : Name) (is : ys ≡ entered name_bytes xs l x) (limit : n ≡ l) where
-  abbrev before : Held
-  before = record { book = b; items = map name_bytes xs; item_limit = l }
+  pub in_order_name : (k : Sort) → legal w ≡ true → InOrder (with_name_of k w h)
+  in_order_name k l = let (sound, room, same) = follows k _ l refl in in_order_book h (book_with k w h.book) order sound room (name_limits k w h.book)
 
-  shows : map name_bytes ys ≡ keep l (map name_bytes xs) (name_bytes x) (map name_bytes xs) (name_bytes x)
-  shows = ap (map name_bytes) is ∙ entered_shows name_bytes l xs x
+  pub in_order_item : InOrder (with_item w h)
+  in_order_item = let (apart, few) = item_follows _ refl in record { sound = order.sound; room = order.room; items = apart; few = omega (arith, few, order.item_limit); class_limit = order.class_limit; link_limit = order.link_limit; node_limit = order.node_limit; item_limit = order.item_limit }
 
-  pub item_added : (i : ℕ) → Some i ≡ added (map name_bytes xs) l (name_bytes x) → Placed (place_item f (name_bytes x) (lexicon before)) (Ok i) (λ j k. IsNumber j k.items (name_bytes x)) before (with_items before (map name_bytes ys) n)
-  item_added i e = item_placed f (name_bytes x) before (map name_bytes ys) n shows limit i (sym e)
+  pub name_placed : (k : Sort) (f : ℕ) → legal w ≡ true → Placed (place_name k f w (lexicon h)) (ok_or (added (names_of k h.book) (limit_of k h.book) w) (at f NamesFull)) (λ i j. IsNumber i (names_of k j.book) w) h (with_name_of k w h)
+  name_placed OfClass f l =
+      let same = (follows OfClass _ l refl).2 in
+      named f w h.book.classes _ h.book.class_limit 64 order.class_limit order.room.classes refl h (with_name_of OfClass w h) _ _ _ (grown OfClass)
+      (λ e. let p = sym e in let q = sym same in λ k. record { classes = p k; links = h.book.links; items = h.items; terms = q k }) (λ i n. n) refl
+  name_placed OfLink f l =
+      let same = (follows OfLink _ l refl).2 in
+      named f w h.book.links _ h.book.link_limit 16 order.link_limit order.room.links refl h (with_name_of OfLink w h) _ _ _ (grown OfLink)
+      (λ e. let p = sym e in let q = sym same in λ k. record { classes = h.book.classes; links = p k; items = h.items; terms = q k }) (λ i n. n) refl
 
-  pub item_lacks : None ≡ added (map name_bytes xs) l (name_bytes x) → Placed (place_item f (name_bytes x) (lexicon before)) (Err (at f NamesFull)) (λ j k. IsNumber j k.items (name_bytes x)) before (with_items before (map name_bytes ys) n)
-  item_lacks e = item_full f (name_bytes x) before (map name_bytes ys) n shows limit (sym e)
+  pub item_placed : (f : ℕ) → Placed (place_item f w (lexicon h)) (ok_or (added h.items h.item_limit w) (at f NamesFull)) (λ i j. IsNumber i j.items w) h (with_item w h)
+  item_placed f =
+      named f w h.items _ h.item_limit 32 order.item_limit (omega (arith, order.few, order.item_limit)) refl h (with_item w h) _ _ _
+      (record { classes = front_refl h.book.classes; links = front_refl h.book.links; nodes = front_refl h.book.nodes; items = keep_front h.item_limit h.items w h.items w; class_limit = refl; link_limit = refl; node_limit = refl; item_limit = refl })
+      (λ e. let p = sym e in λ k. record { classes = h.book.classes; links = h.book.links; items = p k; terms = (lexicon h).terms }) (λ i n. n) refl

@@ -3,7 +3,8 @@ use mathlib.Core.Logic.{∥∥₁_elim}
 use denote.Struct.Props.{props}
 use Rattle.tables.specs.Book.{Book}
 use Rattle.tables.specs.Enters.{Orderly, Within}
-use Rattle.vocabulary.specs.Held.{Held, InOrder}
+use Rattle.vocabulary.specs.Held.{Held, InOrder, held_by}
+use Rattle.vocabulary.specs.declared.vocabularies.Vocabulary.{Vocabulary}
 
 sound_prop : (b : Book) → IsProp (Orderly b)
 sound_prop b x y = λ i. record {
@@ -37,3 +38,7 @@ in_order_prop h x y = λ i. record {
 
 pub in_order : (h : Held) → ∥ InOrder h ∥₁ → InOrder h
 in_order h e = ∥∥₁_elim e (in_order_prop h) (λ f. f)
+
+-- a vocabulary's tables
+pub ordered : (v : Vocabulary) → InOrder (held_by v.words)
+ordered v = in_order (held_by v.words) v.order

@@ -1,19 +1,20 @@
 -- The steps of an entry, one after another. Assumes nothing.
-use Rattle.std.proofs.Common.{◌≡◌, ℕ, ◌<◌, Bool, true, false, cond, List, length, Ok, Err, Result, sym, refl, ap, ◌∙◌, subst, arith}
+use Rattle.std.proofs.Common.{◌≡◌, ℕ, ◌<◌, Bool, true, false, cond, List, length, Ok, Err, Result, MatchResult, sym, refl, ap, ◌∙◌, subst, arith}
 use Rattle.std.proofs.lemmas.Bool.{cond-true, cond-false}
 use Rattle.distinct.specs.Numbering.{number}
 use Rattle.names.specs.declared.refusals.Fault.{Fault}
 use Rattle.names.specs.declared.refusals.Refusal.TheVariants.{LinesFull}
 use Rattle.tables.proofs.Numbers.{front_long, front_number}
 use Rattle.tables.specs.Entry.{Front}
+use Rattle.names.specs.declared.refusals.Refusal.{Refusal}
+use Rattle.terms.specs.Parse.{reading}
 use Rattle.terms.specs.Term.{Spelled}
 use Rattle.vocabulary.proofs.Placings.{grew_refl, grew_trans}
-use Rattle.vocabulary.specs.Entries.{IsNumber, IsTerm, GlossAt, Stated, StatementAt, TieAt, Stepped, state_steps, tie_steps}
+use Rattle.vocabulary.specs.Entries.{IsNumber, IsTerm, IsText, place_text, GlossAt, Stated, TieAt, Stepped, Told}
 use Rattle.vocabulary.specs.Held.{Held, InOrder, Grew, Placed, lexicon}
 use Rattle.vocabulary.specs.Lexicon.{Lexicon, term_of}
-use Rattle.vocabulary.specs.Marks.{MarkOf}
-use Rattle.vocabulary.specs.Placing.{thus, at, place_class, place_link, place_item, place_term, gloss_words}
-use Rattle.vocabulary.specs.declared.words.Mark.{Mark}
+use Rattle.names.specs.Refusal.{at}
+use Rattle.vocabulary.specs.Placing.{thus, in_field, term_in, place_term}
 
 -- a name keeps its number
 pub number_moved : (xs ys : List (List ℕ)) (w : List ℕ) (i : ℕ) → Front xs ys → IsNumber i xs w → IsNumber i ys w
@@ -21,40 +22,54 @@ number_moved xs ys w i f (l, e) =
     let long = front_long xs ys f in
     let same = front_number xs ys w f (subst (λ k. k < length xs) e l) in (omega arith, e ∙ sym same)
 
-module _ {X Y : Type 0} {R : X → Y → Held → Type 0} where
-  stepped_is : (o q : Result Y Fault) (r : Result X Fault) (h h' : Held) → o ≡ q → Stepped q r R h h' → Stepped o r R h h'
-  stepped_is o q r h h' e s = subst (λ p. Stepped p r R h h') (sym e) s
+text_stops : {Y : Type 0} (k : Lexicon) (f : Spelled → Lexicon → Result Y Fault) (e : Fault) (r : Result Spelled Refusal) → thus (in_field 3 r) (λ t. place_term t k) ≡ Err e → thus (in_field 3 r) (λ t. thus (place_term t k) (f t)) ≡ Err e
+text_stops k f e (Ok t) q = ap (λ x. thus x (f t)) q
+text_stops k f e (Err x) q = cc
 
+module _ {X Y : Type 0} {R : X → Y → Held → Type 0} where
   -- a step that was refused
-  pub stops : {Z : Type 0} (o : Result Lexicon Fault) (f : Lexicon → Result Y Fault) (P : Z → Held → Type 0) (e : Fault) (h h' : Held) → InOrder h → Placed o (Err e) P h h' → Stepped (thus o f) (Err e) R h h'
-  stops o f P e h h' s p = record { grew = p.grew; told = ap (λ r. thus r f) (p.told s) }
+  pub stops : {Z : Type 0} {o : Result Lexicon Fault} {P : Z → Held → Type 0} {e : Fault} {h h' : Held} (f : Lexicon → Result Y Fault) → Placed o (Err e) P h h' → Stepped (thus o f) (Err e) R h h'
+  stops f p = record { grew = p.grew; told = ap (λ r. thus r f) p.told }
 
   -- a step that was taken, and those after it
-  pub goes : {Z : Type 0} (o : Result Lexicon Fault) (f : Lexicon → Result Y Fault) (P : Z → Held → Type 0) (z : Z) (r : Result X Fault) (h i j : Held) → InOrder h → Placed o (Ok z) P h i → (InOrder i → P z i → Stepped (f (lexicon i)) r R i j) → Stepped (thus o f) r R h j
-  goes o f P z r h i j s p next =
-      let (t, e, q) = p.told s in
-      let rest = next t q in
-      stepped_is (thus o f) (f (lexicon i)) r h j (ap (λ x. thus x f) e) (record { grew = grew_trans h i j p.grew rest.grew; told = rest.told })
+  pub goes : {Z : Type 0} {o : Result Lexicon Fault} {P : Z → Held → Type 0} {z : Z} {r : Result X Fault} {h i j : Held} (f : Lexicon → Result Y Fault) → Placed o (Ok z) P h i → (P z i → Stepped (f (lexicon i)) r R i j) → Stepped (thus o f) r R h j
+  goes {r = r} {h = h} {i = i} {j = j} f p next =
+      let (e, q) = p.told in
+      let rest = next q in
+      subst (λ x. Stepped x r R h j) (sym (ap (λ x. thus x f) e)) (record { grew = grew_trans h i j p.grew rest.grew; told = rest.told })
 
-  pub ends : (x : X) (y : Y) (h : Held) → InOrder h → R x y h → Stepped (Ok y) (Ok x) R h h
-  ends x y h s q = record { grew = grew_refl h; told = (y, refl, q, s) }
+  -- a term that was refused, and one that was placed
+
+  pub stops_text : (s : List ℕ) (k : Lexicon) {e : Fault} {h h' : Held} (f : Spelled → Lexicon → Result Y Fault) → Placed (place_text s k) (Err e) (λ i j. IsText i j s) h h' → Stepped (thus (term_in 3 s) (λ t. thus (place_term t k) (f t))) (Err e) R h h'
+  stops_text s k f p = record { grew = p.grew; told = text_stops k f _ (reading s) p.told }
+
+  pub goes_text : (s : List ℕ) (k : Lexicon) {n : ℕ} {r : Result X Fault} {h i j : Held} (f : Spelled → Lexicon → Result Y Fault) → Placed (place_text s k) (Ok n) (λ a b. IsText a b s) h i → ((t : Spelled) → IsTerm n i t → Stepped (f t (lexicon i)) r R i j) → Stepped (thus (term_in 3 s) (λ t. thus (place_term t k) (f t))) r R h j
+  goes_text s k {r = r} {h = h} {i = i} {j = j} f p next =
+      let (e, (t, read, is)) = p.told in
+      let rest = next t is in
+      let fits = sym (ap (λ x. thus (in_field 3 x) (λ u. place_term u k)) read) ∙ e in
+      subst (λ x. Stepped x r R h j) (sym (ap (λ x. thus (in_field 3 x) (λ u. thus (place_term u k) (f u))) read ∙ ap (λ x. thus x (f t)) fits)) (record { grew = grew_trans h i j p.grew rest.grew; told = rest.told })
+
+  pub ends : {x : X} (y : Y) {h : Held} → R x y h → Stepped (Ok y) (Ok x) R h h
+  ends y {h = h} q = record { grew = grew_refl h; told = (y, refl, q) }
 
   -- where one more line may be kept, and where not
 
-  pub ends_room : (room : Bool) (x : X) (y : Y) (h : Held) → room ≡ true → InOrder h → R x y h → Stepped (cond room (Ok y) (Err (at 1 LinesFull))) (Ok x) R h h
-  ends_room room x y h e s q = stepped_is _ (Ok y) (Ok x) h h (cond-true room (Ok y) (Err (at 1 LinesFull)) e) (ends x y h s q)
+  pub ends_room : {room : Bool} {x : X} (y : Y) {h : Held} → room ≡ true → R x y h → Stepped (cond room (Ok y) (Err (at 1 LinesFull))) (Ok x) R h h
+  ends_room {room} {x} y {h} e q = subst (λ o. Stepped o (Ok x) R h h) (sym (cond-true room (Ok y) (Err (at 1 LinesFull)) e)) (ends y q)
 
-  pub ends_full : (room : Bool) (y : Y) (h : Held) → room ≡ false → Stepped (cond room (Ok y) (Err (at 1 LinesFull))) (Err (at 1 LinesFull)) R h h
-  ends_full room y h e = record { grew = grew_refl h; told = cond-false room (Ok y) (Err (at 1 LinesFull)) e }
+  pub ends_full : {room : Bool} (y : Y) {h : Held} → room ≡ false → Stepped (cond room (Ok y) (Err (at 1 LinesFull))) (Err (at 1 LinesFull)) R h h
+  ends_full {room} y {h} e = record { grew = grew_refl h; told = cond-false room (Ok y) (Err (at 1 LinesFull)) e }
 
-  -- steps that were refused, and taken back
-  pub taken_back : (o : Result Y Fault) (e : Fault) (h i j : Held) (m : Mark) → MarkOf m h → Stepped o (Err e) R h i → ((k : Held) → MarkOf m k → Grew k i → j ≡ k) → (o ≡ Err e) × (j ≡ h)
-  taken_back o e h i j m k s back = (s.told, back h k s.grew)
+  -- the steps of an entry, kept where they ended and taken back where not
+  pub entered : {o q : Result Y Fault} (r : Result X Fault) {h i j : Held} → o ≡ q → Stepped q r R h i → InOrder j → MatchResult r (λ _. j ≡ i) (λ _. j ≡ h) → Told o r R h j
+  entered (Ok x) {h} e s order kept = let (y, f, p) = s.told in (y, e ∙ f, subst (R x y) (sym kept) p, order, subst (Grew h) (sym kept) s.grew)
+  entered (Err x) e s order kept = (e ∙ s.told, kept)
 
 -- the lines themselves, at their numbers
 
-pub gloss_at_lem : (w : List ℕ) (t : Spelled) (a n : ℕ) (i j : Held) → Grew i j → IsNumber a i.book.classes w → IsTerm n j t → GlossAt (record { class = a; term = n }) (record { words = lexicon j; class = number (lexicon j).classes w; term = term_of (lexicon j) t }) j
-gloss_at_lem w t a n i j g p q =
+pub gloss_at : (w : List ℕ) (t : Spelled) (a n : ℕ) (i j : Held) → Grew i j → IsNumber a i.book.classes w → IsTerm n j t → GlossAt (record { class = a; term = n }) (record { words = lexicon j; class = number (lexicon j).classes w; term = term_of (lexicon j) t }) j
+gloss_at w t a n i j g p q =
     let (below, same) = number_moved i.book.classes j.book.classes w a g.classes p in
     record { words = refl; class = sym same; class_below = below; term = sym q.1; term_below = q.0 }
 
@@ -68,70 +83,3 @@ tie_at l v w n a b h i j p q x y z =
     let (link_below, link) = number_moved h.book.links j.book.links l n (grew_trans h i j p q).links x in
     let (from_below, from) = number_moved i.items j.items v a q.items y in
     record { words = refl; link = sym link; link_below = link_below; from = sym from; from_below = from_below; to = sym z.1; to_below = z.0 }
-
--- a gloss, its class placed
-
-module _ (w : List ℕ) (t : Spelled) (h i j : Held) (s : InOrder h) (a : ℕ) (p : Placed (place_class 2 w (lexicon h)) (Ok a) (λ x k. IsNumber x k.book.classes w) h i) where
-  pub gloss_stops : (e : Fault) → (InOrder i → Placed (place_term t (lexicon i)) (Err e) (λ x k. IsTerm x k t) i j) → Stepped (gloss_words (lexicon h) w t) (Err e) GlossAt h j
-  gloss_stops e q = goes (place_class 2 w (lexicon h)) _ (λ x k. IsNumber x k.book.classes w) a (Err e) h i j s p (λ o x. stops (place_term t (lexicon i)) _ (λ x k. IsTerm x k t) e i j o (q o))
-
-  pub gloss_goes : (n : ℕ) → (InOrder i → Placed (place_term t (lexicon i)) (Ok n) (λ x k. IsTerm x k t) i j) → Stepped (gloss_words (lexicon h) w t) (Ok (record { class = a; term = n })) GlossAt h j
-  gloss_goes n q =
-      goes (place_class 2 w (lexicon h)) _ (λ x k. IsNumber x k.book.classes w) a _ h i j s p
-      (λ o x.
-      goes (place_term t (lexicon i)) _ (λ x k. IsTerm x k t) n _ i j j o (q o)
-      (λ u y. ends _ _ j u (gloss_at_lem w t a n i j (q o).grew x y)))
-
--- a statement, its item placed
-
-module _ (w : List ℕ) (t : Spelled) (room : Bool) (h i j : Held) (s : InOrder h) (a : ℕ) (p : Placed (place_item 2 w (lexicon h)) (Ok a) (λ x k. IsNumber x k.items w) h i) where
-  pub statement_stops : (e : Fault) → (InOrder i → Placed (place_term t (lexicon i)) (Err e) (λ x k. IsTerm x k t) i j) → Stepped (state_steps (lexicon h) w t room) (Err e) StatementAt h j
-  statement_stops e q = goes (place_item 2 w (lexicon h)) _ (λ x k. IsNumber x k.items w) a (Err e) h i j s p (λ o x. stops (place_term t (lexicon i)) _ (λ x k. IsTerm x k t) e i j o (q o))
-
-  module _ (n : ℕ) (q : InOrder i → Placed (place_term t (lexicon i)) (Ok n) (λ x k. IsTerm x k t) i j) where
-    pub statement_goes : room ≡ true → Stepped (state_steps (lexicon h) w t room) (Ok (record { item = a; term = n })) StatementAt h j
-    statement_goes e =
-        goes (place_item 2 w (lexicon h)) _ (λ x k. IsNumber x k.items w) a _ h i j s p
-        (λ o x.
-        goes (place_term t (lexicon i)) _ (λ x k. IsTerm x k t) n _ i j j o (q o)
-        (λ u y. ends_room room _ _ j e u (statement_at w t a n i j (q o).grew x y)))
-
-    pub statement_full : room ≡ false → Stepped (state_steps (lexicon h) w t room) (Err (at 1 LinesFull)) StatementAt h j
-    statement_full e =
-        goes (place_item 2 w (lexicon h)) _ (λ x k. IsNumber x k.items w) a _ h i j s p
-        (λ o x.
-        goes (place_term t (lexicon i)) _ (λ x k. IsTerm x k t) n _ i j j o (q o)
-        (λ u y. ends_full room _ j e))
-
--- a tie, its link placed
-
-module _ (l v w : List ℕ) (room : Bool) (g h : Held) (s : InOrder g) (n : ℕ) (p : Placed (place_link 2 l (lexicon g)) (Ok n) (λ x k. IsNumber x k.book.links l) g h) where
-  pub tie_stops_from : (i : Held) (e : Fault) → Placed (place_item 3 v (lexicon h)) (Err e) (λ x k. IsNumber x k.items v) h i → Stepped (tie_steps (lexicon g) l v w room) (Err e) TieAt g i
-  tie_stops_from i e q = goes (place_link 2 l (lexicon g)) _ (λ x k. IsNumber x k.book.links l) n (Err e) g h i s p (λ o x. stops (place_item 3 v (lexicon h)) _ (λ x k. IsNumber x k.items v) e h i o q)
-
-  module _ (i j : Held) (a : ℕ) (q : Placed (place_item 3 v (lexicon h)) (Ok a) (λ x k. IsNumber x k.items v) h i) where
-    pub tie_stops_to : (e : Fault) → Placed (place_item 4 w (lexicon i)) (Err e) (λ x k. IsNumber x k.items w) i j → Stepped (tie_steps (lexicon g) l v w room) (Err e) TieAt g j
-    tie_stops_to e r =
-        goes (place_link 2 l (lexicon g)) _ (λ x k. IsNumber x k.book.links l) n (Err e) g h j s p
-        (λ o x.
-        goes (place_item 3 v (lexicon h)) _ (λ x k. IsNumber x k.items v) a (Err e) h i j o q
-        (λ u y. stops (place_item 4 w (lexicon i)) _ (λ x k. IsNumber x k.items w) e i j u r))
-
-    module _ (b : ℕ) (r : Placed (place_item 4 w (lexicon i)) (Ok b) (λ x k. IsNumber x k.items w) i j) where
-      pub tie_goes : room ≡ true → Stepped (tie_steps (lexicon g) l v w room) (Ok (record { link = n; from = a; to = b })) TieAt g j
-      tie_goes e =
-          goes (place_link 2 l (lexicon g)) _ (λ x k. IsNumber x k.book.links l) n _ g h j s p
-          (λ o x.
-          goes (place_item 3 v (lexicon h)) _ (λ x k. IsNumber x k.items v) a _ h i j o q
-          (λ u y.
-          goes (place_item 4 w (lexicon i)) _ (λ x k. IsNumber x k.items w) b _ i j j u r
-          (λ d z. ends_room room _ _ j e d (tie_at l v w n a b h i j q.grew r.grew x y z))))
-
-      pub tie_full : room ≡ false → Stepped (tie_steps (lexicon g) l v w room) (Err (at 1 LinesFull)) TieAt g j
-      tie_full e =
-          goes (place_link 2 l (lexicon g)) _ (λ x k. IsNumber x k.book.links l) n _ g h j s p
-          (λ o x.
-          goes (place_item 3 v (lexicon h)) _ (λ x k. IsNumber x k.items v) a _ h i j o q
-          (λ u y.
-          goes (place_item 4 w (lexicon i)) _ (λ x k. IsNumber x k.items w) b _ i j j u r
-          (λ d z. ends_full room _ j e)))

@@ -1,21 +1,21 @@
 -- What entering a term into the tables makes of the vocabulary. Assumes nothing.
-use Rattle.std.proofs.Common.{◌≡◌, ℕ, Bool, true, false, cond, ◌&&◌, leb, List, length, Ok, Err, Result, sym, refl, ap, ◌∙◌, subst}
+use Rattle.std.proofs.Common.{◌≡◌, ℕ, Bool, true, false, cond, ◌&&◌, leb, List, length, Ok, Err, Result, MatchResult, IfErr, sym, refl, ap, ◌∙◌, subst}
 use Rattle.names.specs.declared.refusals.Fault.{Fault}
 use Rattle.names.specs.declared.refusals.Refusal.{Refusal}
 use Rattle.names.specs.declared.refusals.Refusal.TheVariants.{NamesFull, TermsFull}
-use Rattle.tables.proofs.Fronts.{enters_fronts}
-use Rattle.tables.proofs.Numbers.{front_refl}
+use Rattle.tables.proofs.Fronts.{Limits, enters_fronts}
 use Rattle.tables.specs.Book.{Book}
 use Rattle.tables.specs.Enters.{Enters}
 use Rattle.tables.specs.Texts.{names_fit, terms_fit, entering}
 use Rattle.terms.specs.Parse.{after, reading}
 use Rattle.terms.specs.Term.{Spelled}
 use Rattle.terms.specs.Told.{IsRead}
-use Rattle.vocabulary.proofs.Placings.{with_book, grew_refl}
-use Rattle.vocabulary.specs.Entries.{IsTerm}
+use Rattle.vocabulary.proofs.Placings.{with_book, grew_refl, grew_book, in_order_book}
+use Rattle.vocabulary.specs.Entries.{IsText, place_text}
 use Rattle.vocabulary.specs.Held.{Held, InOrder, Grew, Placed, lexicon}
 use Rattle.vocabulary.specs.Lexicon.{Lexicon, with_term}
-use Rattle.vocabulary.specs.Placing.{at, place_if, place_term}
+use Rattle.names.specs.Refusal.{at}
+use Rattle.vocabulary.specs.Placing.{thus, in_field, place_if, place_term}
 
 -- the outcome of entering, told of the vocabulary and the field
 abbrev turned : Lexicon → Result Spelled Refusal → Result Lexicon Fault
@@ -27,45 +27,54 @@ turned_is k t true true = refl
 turned_is k t true false = refl
 turned_is k t false y = refl
 
-module _ (h : Held) (s : List ℕ) (t : Spelled) (o : InOrder h) (read : reading s ≡ Ok t) where
-  abbrev next : Lexicon
-  next = with_term t (lexicon h)
+-- within limits a, b and c
+abbrev within : ℕ → ℕ → ℕ → Lexicon → Result Lexicon Fault
+within a b c k = cond (leb (length k.classes) a && leb (length k.links) b) (place_if (leb (length k.terms) c) (at 3 TermsFull) k) (Err (at 3 NamesFull))
 
-  -- within limits a, b and c
-  abbrev within : ℕ → ℕ → ℕ → Result Lexicon Fault
-  within a b c = cond (leb (length next.classes) a && leb (length next.links) b) (place_if (leb (length next.terms) c) (at 3 TermsFull) next) (Err (at 3 NamesFull))
+enters_limits : {b c : Book} {t : Spelled} {i : ℕ} → Enters b t i c → Limits b c
+enters_limits e = record { classes = e.limits.0; links = e.limits.1; nodes = e.limits.2 }
 
-  placing : place_term t (lexicon h) ≡ turned next (entering h.book s)
-  placing =
+module _ (h : Held) (s : List ℕ) (o : InOrder h) where
+  abbrev next : Spelled → Lexicon
+  next t = with_term t (lexicon h)
+
+  placing : (t : Spelled) → reading s ≡ Ok t → place_term t (lexicon h) ≡ turned (next t) (entering h.book s)
+  placing t read =
       let p = sym o.class_limit in
       let q = sym o.link_limit in
       let r = sym o.node_limit in
-      let limits : place_term t (lexicon h) ≡ within h.book.class_limit h.book.link_limit h.book.node_limit = λ j. within (p j) (q j) (r j) in
+      let limits : place_term t (lexicon h) ≡ within h.book.class_limit h.book.link_limit h.book.node_limit (next t) = λ j. within (p j) (q j) (r j) (next t) in
       limits
-      ∙ sym (turned_is next t (names_fit h.book t) (terms_fit h.book t))
-      ∙ sym (ap (λ x. turned next (after x (λ u. cond (names_fit h.book u) (cond (terms_fit h.book u) (Ok u) (Err TermsFull)) (Err NamesFull)))) read)
+      ∙ sym (turned_is (next t) t (names_fit h.book t) (terms_fit h.book t))
+      ∙ sym (ap (λ x. turned (next t) (after x (λ u. cond (names_fit h.book u) (cond (terms_fit h.book u) (Ok u) (Err TermsFull)) (Err NamesFull)))) read)
 
-  enters_placed : (i : ℕ) (b : Book) → entering h.book s ≡ Ok t → Enters h.book t i b → Placed (place_term t (lexicon h)) (Ok i) (λ j k. IsTerm j k t) h (with_book h b)
-  enters_placed i b fits e =
-      let f = enters_fronts h.book t i b e in
+  term_placed : (i : ℕ) (b : Book) → (t : Spelled) × IsRead s t × (entering h.book s ≡ Ok t) × Enters h.book t i b → Placed (place_text s (lexicon h)) (Ok i) (λ j k. IsText j k s) h (with_book h b)
+  term_placed i b (t, is, fits, e) =
+      let read = is.exact in
       record {
-        grew = record { classes = f.classes; links = f.links; nodes = f.nodes; items = front_refl h.items; class_limit = e.limits.0; link_limit = e.limits.1; node_limit = e.limits.2; item_limit = refl };
-        told = λ _. (
-          record { sound = e.sound; room = e.room; items = o.items; few = o.few; class_limit = e.limits.0 ∙ o.class_limit; link_limit = e.limits.1 ∙ o.link_limit; node_limit = e.limits.2 ∙ o.node_limit; item_limit = o.item_limit },
-          placing ∙ ap (turned next) fits ∙ (let p = sym e.classes in let q = sym e.links in let r = sym e.terms in λ k. Ok (record { classes = p k; links = q k; items = h.items; terms = r k })),
-          (e.below, e.reads),
+        grew = grew_book h b (enters_fronts h.book t i b e) (enters_limits e);
+        told = (
+          ap (λ r. thus (in_field 3 r) (λ u. place_term u (lexicon h))) read
+              ∙ placing t read
+              ∙ ap (turned (next t)) fits
+              ∙ (let p = sym e.classes in let q = sym e.links in let r = sym e.terms in λ k. Ok (record { classes = p k; links = q k; items = h.items; terms = r k })),
+          (t, read, (e.below, e.reads)),
         );
       }
 
-  pub term_placed : (i : ℕ) (b : Book) → (u : Spelled) × IsRead s u × (entering h.book s ≡ Ok u) × Enters h.book u i b → Placed (place_term t (lexicon h)) (Ok i) (λ j k. IsTerm j k t) h (with_book h b)
-  term_placed i b (u, is, fits, e) =
-      let exact = is.exact in
-      let same : u ≡ t = cc in
-      enters_placed i b (subst (λ v. entering h.book s ≡ Ok v) same fits) (subst (λ v. Enters h.book v i b) same e)
+  refused_at : (e : Refusal) (r : Result Spelled Refusal) → reading s ≡ r → entering h.book s ≡ Err e → thus (in_field 3 r) (λ u. place_term u (lexicon h)) ≡ Err (at 3 e)
+  refused_at e (Ok t) read not = placing t read ∙ ap (turned (next t)) not
+  refused_at e (Err x) read not =
+      let same = sym (ap (λ r. after r (λ u. cond (names_fit h.book u) (cond (terms_fit h.book u) (Ok u) (Err TermsFull)) (Err NamesFull))) read) ∙ not in cc
 
-  pub term_refused : (e : Refusal) (b : Book) → entering h.book s ≡ Err e → b ≡ h.book → Placed (place_term t (lexicon h)) (Err (at 3 e)) (λ j k. IsTerm j k t) h (with_book h b)
-  term_refused e b not same =
-      record {
-        grew = subst (λ c. Grew h (with_book h c)) (sym same) (grew_refl h);
-        told = λ _. placing ∙ ap (turned next) not;
-      }
+  -- what `enter` answered and left
+  abbrev Entered : Result ℕ Refusal → Book → Type 0
+  Entered r b = MatchResult r (λ i. (t : Spelled) × IsRead s t × (entering h.book s ≡ Ok t) × Enters h.book t i b) (λ e. entering h.book s ≡ Err e)
+
+  pub in_order_after : (r : Result ℕ Refusal) (b : Book) → Entered r b → IfErr r (λ e. b ≡ h.book) → InOrder (with_book h b)
+  in_order_after (Ok i) b (t, is, fits, e) same = in_order_book h b o e.sound e.room (enters_limits e)
+  in_order_after (Err e) b refused same = subst (λ c. InOrder (with_book h c)) (sym same) o
+
+  pub text_placed : (r : Result ℕ Refusal) (b : Book) (q : Result ℕ Fault) → Entered r b → IfErr r (λ e. b ≡ h.book) → MatchResult r (λ i. q ≡ Ok i) (λ e. q ≡ Err (at 3 e)) → Placed (place_text s (lexicon h)) q (λ j k. IsText j k s) h (with_book h b)
+  text_placed (Ok i) b q entered same is = rw is (term_placed i b entered)
+  text_placed (Err e) b q refused same is = rw is (record { grew = subst (λ c. Grew h (with_book h c)) (sym same) (grew_refl h); told = refused_at e (reading s) refl refused })

@@ -4,10 +4,12 @@ use Rattle.distinct.specs.Numbering.{number}
 use Rattle.names.specs.declared.refusals.Fault.{Fault}
 use Rattle.names.specs.declared.refusals.Refusal.TheVariants.{LinesFull}
 use Rattle.terms.specs.Nodes.{tree}
+use Rattle.terms.specs.Parse.{reading}
 use Rattle.terms.specs.Term.{Spelled}
 use Rattle.vocabulary.specs.Held.{Held, InOrder, Grew, lexicon}
 use Rattle.vocabulary.specs.Lexicon.{Lexicon, term_of}
-use Rattle.vocabulary.specs.Placing.{OfGloss, OfStatement, OfTie, thus, at, place_link, place_item, place_term}
+use Rattle.names.specs.Refusal.{at}
+use Rattle.vocabulary.specs.Placing.{OfGloss, OfStatement, OfTie, thus, term_in, place_class, place_link, place_item, place_term}
 use Rattle.vocabulary.specs.declared.placed.PlacedGloss.{PlacedGloss}
 use Rattle.vocabulary.specs.declared.placed.PlacedStatement.{PlacedStatement}
 use Rattle.vocabulary.specs.declared.placed.PlacedTie.{PlacedTie}
@@ -19,6 +21,10 @@ IsNumber i xs w = (i < length xs) × (i ≡ number xs w)
 -- node i stands for t
 abbrev pub IsTerm : ℕ → Held → Spelled → Type 0
 IsTerm i h t = (i < length h.book.nodes) × (tree h.book.nodes i ≡ term_of (lexicon h) t)
+
+-- node i stands for the term that the text s is
+abbrev pub IsText : ℕ → Held → List ℕ → Type 0
+IsText i h s = (t : Spelled) × (reading s ≡ Ok t) × IsTerm i h t
 
 -- The numbers x of a line are those of the line y, in tables h.
 
@@ -60,14 +66,29 @@ Queried o a n h h' = (y : OfStatement) × (o ≡ Ok y) × Stated a n y h' × InO
 -- The steps of an entry, with outcome o, answered r and left h', which has all that h had whether or not they ended.
 pub record Stepped {X Y : Type 0} (o : Result Y Fault) (r : Result X Fault) (P : X → Y → Held → Type 0) (h h' : Held) : Type 0 where
   pub grew : Grew h h'
-  pub told : MatchResult r (λ x. (y : Y) × (o ≡ Ok y) × P x y h' × InOrder h') (λ e. o ≡ Err e)
+  pub told : MatchResult r (λ x. (y : Y) × (o ≡ Ok y) × P x y h') (λ e. o ≡ Err e)
 
--- a statement, once its item and its term are read
-abbrev pub state_steps : Lexicon → List ℕ → Spelled → Bool → Result OfStatement Fault
-state_steps k a t room =
-    thus (place_item 2 a k) (λ i.
+-- A line's names and terms, placed one after another.
+
+-- a term, by its text
+abbrev pub place_text : List ℕ → Lexicon → Result Lexicon Fault
+place_text s k = thus (term_in 3 s) (λ t. place_term t k)
+
+-- a gloss, once its class is read
+abbrev pub gloss_steps : Lexicon → List ℕ → List ℕ → Result OfGloss Fault
+gloss_steps k w s =
+    thus (place_class 2 w k) (λ i.
+    thus (term_in 3 s) (λ t.
     thus (place_term t i) (λ j.
-    cond room (Ok (record { words = j; item = number j.items a; term = term_of j t })) (Err (at 1 LinesFull))))
+    Ok (record { words = j; class = number j.classes w; term = term_of j t }))))
+
+-- a statement, once its item is read
+abbrev pub state_steps : Lexicon → List ℕ → List ℕ → Bool → Result OfStatement Fault
+state_steps k a s room =
+    thus (place_item 2 a k) (λ i.
+    thus (term_in 3 s) (λ t.
+    thus (place_term t i) (λ j.
+    cond room (Ok (record { words = j; item = number j.items a; term = term_of j t })) (Err (at 1 LinesFull)))))
 
 -- a tie, once its names are read
 abbrev pub tie_steps : Lexicon → List ℕ → List ℕ → List ℕ → Bool → Result OfTie Fault

@@ -43,12 +43,7 @@ pub record Grew (h h' : Held) : Type 0 where
   pub node_limit : h'.book.node_limit ≡ h.book.node_limit
   pub item_limit : h'.item_limit ≡ h.item_limit
 
--- A step with outcome o answered r and left h': what it gave is as P says, and from tables in order it leaves such.
+-- A step with outcome o answered r and left h', which has all that h had: what it gave is as P says.
 pub record Placed {X : Type 0} (o : Result Lexicon Fault) (r : Result X Fault) (P : X → Held → Type 0) (h h' : Held) : Type 0 where
   pub grew : Grew h h'
-  pub told : InOrder h → MatchResult r (λ x. InOrder h' × (o ≡ Ok (lexicon h')) × P x h') (λ e. o ≡ Err e)
-
--- An entry with outcome o answered r and left h', which a refusal leaves as it was.
-abbrev pub Entered : {X Y : Type 0} → Result Y Fault → Result X Fault → (X → Y → Held → Type 0) → Held → Held → Type 0
-Entered {X} {Y} o r P h h' =
-    InOrder h → MatchResult r (λ x. (y : Y) × (o ≡ Ok y) × P x y h' × InOrder h' × Grew h h') (λ e. (o ≡ Err e) × (h' ≡ h))
+  pub told : MatchResult r (λ x. (o ≡ Ok (lexicon h')) × P x h') (λ e. o ≡ Err e)

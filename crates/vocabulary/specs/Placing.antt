@@ -2,20 +2,20 @@
 use Rattle.std.specs.Prelude.{ℕ, Bool, true, cond, ◌&&◌, List, length, Ok, Err, Result, nat_le}
 use Rattle.distinct.specs.Numbering.{number}
 use Rattle.names.specs.Name.{flaw}
+use Rattle.names.specs.Refusal.{at}
 use Rattle.names.specs.declared.refusals.Fault.{Fault}
 use Rattle.names.specs.declared.refusals.Refusal.{Refusal}
 use Rattle.names.specs.declared.refusals.Refusal.TheVariants.{ShortBuffer, NamesFull, TermsFull, LinesFull}
 use Rattle.terms.specs.Parse.{named, reading}
 use Rattle.terms.specs.Term.{Term, Spelled, written}
+use Rattle.terms.specs.declared.nodes.Sort.{Sort}
+use Rattle.terms.specs.declared.nodes.Sort.TheVariants.{OfClass, OfLink}
 use Rattle.vocabulary.specs.Lexicon.{Lexicon, with_class, with_link, with_item, with_term, term_of}
 
 -- One step, and the next with what it gave; the first refusal ends it.
 abbrev pub thus : {X Y : Type 0} → Result X Fault → (X → Result Y Fault) → Result Y Fault
 thus (Ok x) f = f x
 thus (Err e) f = Err e
-
-abbrev pub at : ℕ → Refusal → Fault
-at f e = record { field = f; refusal = e }
 
 -- Input comes first: what a field holds, or its fault.
 
@@ -42,6 +42,11 @@ place_link f w k = place_if (nat_le (length (with_link w k).links) 16) (at f Nam
 
 abbrev pub place_item : ℕ → List ℕ → Lexicon → Result Lexicon Fault
 place_item f w k = place_if (nat_le (length (with_item w k).items) 32) (at f NamesFull) (with_item w k)
+
+-- by the sort of the name
+abbrev pub place_name : Sort → ℕ → List ℕ → Lexicon → Result Lexicon Fault
+place_name OfClass f w k = place_class f w k
+place_name OfLink f w k = place_link f w k
 
 -- names before terms
 abbrev pub place_term : Spelled → Lexicon → Result Lexicon Fault

@@ -6,6 +6,7 @@ ghost use Rattle.vocabulary.specs.Held.{held_by, lexicon};
 ghost use Rattle.vocabulary.specs.Lexicon.{none};
 ghost use Rattle.vocabulary.specs.Placing.{thus, term_in, gloss_words, state_words, tie_words};
 
+use crate::inputs::{check_in, name_in};
 use crate::placed::{PlacedGloss, PlacedStatement, PlacedTie};
 use crate::vocabularies::Vocabulary;
 use crate::words::Words;
@@ -27,7 +28,8 @@ impl Vocabulary {
     pub fn gloss(&mut self, class: Name, term: &[u8]) -> Result<PlacedGloss, Fault>
         ensures { Told (thus (term_in 3 term.now) (λ t. gloss_words (lexicon (held_by self.old.words)) (name_bytes class) t)) result GlossAt (held_by self.old.words) (held_by self.new.words) }
     {
-        self.words.gloss(class, term)
+        check_in(3, term)?;
+        self.enter(|vocabulary| vocabulary.gloss_steps(class, term))
     }
 
     // Places the item and the term of a statement, where `room` says whether one more line may be kept. A refusal leaves
@@ -40,7 +42,9 @@ impl Vocabulary {
     ) -> Result<PlacedStatement, Fault>
         ensures { Told (state_words (lexicon (held_by self.old.words)) item.now term.now room) result StatementAt (held_by self.old.words) (held_by self.new.words) }
     {
-        self.words.statement(item, term, room)
+        let item = name_in(2, item)?;
+        check_in(3, term)?;
+        self.enter(|vocabulary| vocabulary.statement_steps(item, term, room))
     }
 
     // Places the link and the two items of a tie, likewise.
@@ -53,7 +57,10 @@ impl Vocabulary {
     ) -> Result<PlacedTie, Fault>
         ensures { Told (tie_words (lexicon (held_by self.old.words)) link.now from.now to.now room) result TieAt (held_by self.old.words) (held_by self.new.words) }
     {
-        self.words.tie(link, from, to, room)
+        let link = name_in(2, link)?;
+        let from = name_in(3, from)?;
+        let to = name_in(4, to)?;
+        self.enter(|vocabulary| vocabulary.tie_steps(link, from, to, room))
     }
 
     pub fn classes(&self) -> &Distinct<Name>

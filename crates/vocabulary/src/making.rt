@@ -17,14 +17,4 @@ impl Words {
             items: Distinct::new(heap, 32)?,
         })
     }
-
-    // Tables that hold the same, in memory of their own.
-    pub(crate) fn copy(&self, heap: Global) -> Result<Words, AllocError>
-        ensures { IfOk result (λ w. held_by w ≡ held_by self.now) }
-    {
-        Ok(Words {
-            tables: self.tables.copy(heap)?,
-            items: self.items.copy(heap)?,
-        })
-    }
 }

@@ -1,60 +1,47 @@
-ghost use Rattle.std.specs.Prelude.{◌≡◌, Ok};
+ghost use Rattle.tables.specs.Book.{names_of};
 ghost use Rattle.terms.specs.Nodes.{name_bytes};
-ghost use Rattle.terms.specs.Parse.{reading};
-ghost use Rattle.terms.specs.Term.{Spelled};
-ghost use Rattle.vocabulary.specs.Held.{InOrder, Placed, held_by, lexicon};
-ghost use Rattle.vocabulary.specs.Entries.{IsNumber, IsTerm};
-ghost use Rattle.vocabulary.specs.Placing.{place_class, place_link, place_item, place_term};
+ghost use Rattle.vocabulary.specs.Entries.{IsNumber, IsText, place_text};
+ghost use Rattle.vocabulary.specs.Held.{Placed, held_by, lexicon};
+ghost use Rattle.vocabulary.specs.Placing.{place_name, place_item};
 
-use crate::words::Words;
+use crate::vocabularies::Vocabulary;
 use names::{Fault, Name, Refusal};
+use terms::Sort;
 
-impl Words {
-    // The number of a class name, which is put behind the others where it is new.
-    pub(crate) fn place_class(&mut self, field: usize, name: Name) -> Result<usize, Fault>
-        ensures { Placed (place_class field (name_bytes name) (lexicon (held_by self.old))) result (λ i h. IsNumber i h.book.classes (name_bytes name)) (held_by self.old) (held_by self.new) }
+impl Vocabulary {
+    // The number of a class or a link, which is put behind the others of its sort where it is new.
+    pub(crate) fn place_name(
+        &mut self,
+        sort: Sort,
+        field: usize,
+        name: Name,
+    ) -> Result<usize, Fault>
+        ensures { Placed (place_name sort field (name_bytes name) (lexicon (held_by self.old.words))) result (λ i h. IsNumber i (names_of sort h.book) (name_bytes name)) (held_by self.old.words) (held_by self.new.words) }
     {
-        match self.tables.add_class(name) {
-            Some(i) => Ok(i),
-            None => Err(Fault {
-                field,
-                refusal: Refusal::NamesFull,
-            }),
-        }
+        self.words
+            .tables
+            .add_name(sort, name)
+            .ok_or(Refusal::NamesFull.in_field(field))
     }
 
-    pub(crate) fn place_link(&mut self, field: usize, name: Name) -> Result<usize, Fault>
-        ensures { Placed (place_link field (name_bytes name) (lexicon (held_by self.old))) result (λ i h. IsNumber i h.book.links (name_bytes name)) (held_by self.old) (held_by self.new) }
-    {
-        match self.tables.add_link(name) {
-            Some(i) => Ok(i),
-            None => Err(Fault {
-                field,
-                refusal: Refusal::NamesFull,
-            }),
-        }
-    }
-
+    // The number of an item, likewise.
     pub(crate) fn place_item(&mut self, field: usize, name: Name) -> Result<usize, Fault>
-        ensures { Placed (place_item field (name_bytes name) (lexicon (held_by self.old))) result (λ i h. IsNumber i h.items (name_bytes name)) (held_by self.old) (held_by self.new) }
+        ensures { Placed (place_item field (name_bytes name) (lexicon (held_by self.old.words))) result (λ i h. IsNumber i h.items (name_bytes name)) (held_by self.old.words) (held_by self.new.words) }
     {
-        match self.items.add(name) {
-            Some(i) => Ok(i),
-            None => Err(Fault {
-                field,
-                refusal: Refusal::NamesFull,
-            }),
-        }
+        self.words
+            .items
+            .add(name)
+            .ok_or(Refusal::NamesFull.in_field(field))
     }
 
     // The number of a term, whose names and parts are put behind the others where they are new. A line has its term in
     // field 3.
     pub(crate) fn place_term(&mut self, text: &[u8]) -> Result<usize, Fault>
-        ensures { (t : Spelled) → reading text.now ≡ Ok t → InOrder (held_by self.old) → Placed (place_term t (lexicon (held_by self.old))) result (λ i h. IsTerm i h t) (held_by self.old) (held_by self.new) }
+        ensures { Placed (place_text text.now (lexicon (held_by self.old.words))) result (λ i h. IsText i h text.now) (held_by self.old.words) (held_by self.new.words) }
     {
-        match self.tables.enter(text) {
-            Ok(i) => Ok(i),
-            Err(refusal) => Err(Fault { field: 3, refusal }),
-        }
+        self.words
+            .tables
+            .enter(text)
+            .map_err(|refusal| refusal.in_field(3))
     }
 }

@@ -3,7 +3,7 @@ use names::Name;
 use tables::{Mark as TablesMark, Tables};
 
 // The tables of a vocabulary: class and link names and the different terms, and item names.
-#[derive(Drop)]
+#[derive(Clone, Drop)]
 pub(crate) struct Words {
     pub(crate) tables: Tables,
     pub(crate) items: Distinct<Name>,

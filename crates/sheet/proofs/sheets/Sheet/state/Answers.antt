@@ -1,9 +1,37 @@
-use Rattle.sheet.proofs.Promises.{kept_order, kept_told}
-use Rattle.sheet.specs.Store.{store_of}
+use Rattle.std.proofs.Common.{vec_items, arith}
+use Rattle.std.proofs.lemmas.Bool.Decides.{nat_tests}
+use Rattle.sheet.proofs.Lined.{line_fair, line_told, line_refused, statements_are}
+use Rattle.sheet.proofs.Props.{fair_of}
+use Rattle.sheet.specs.Content.{stated, with_line}
+use Rattle.sheet.specs.Store.{store_of, content_of}
+use Rattle.sheet.specs.declared.line.Line.TheVariants.{Statement}
+use Rattle.vocabulary.specs.Held.{held_by}
 use Rattle.sheet.proofs.sheets.Sheet.state.Goals as goal
 
-pub invariant_of-self : goal.invariant_of-self
-invariant_of-self c = record { fair = kept_order _ c.state.result (store_of c.args.self.now.page) (store_of c.state.new.self) c.args.self.now.fair c.state.ensures }
+pub returns-in_err-placed : goal.returns-in_err-placed
+returns-in_err-placed c =
+    let s = store_of c.args.self.now.page in
+    let room = c.statement_fits-room.ensures in
+    let same = statements_are s.held.book.nodes s.lines in
+    let (refused, kept) = c.in_err-placed.ensures in
+    record { told = line_refused s (held_by c.statement.new.self.words) _ (λ p. with_line p.words (stated p.item p.term) (content_of s)) c.from_residual.result c.in_err-placed.field-0.0 c.from_residual.ensures.1 (cc) kept }
+
+pub invariant_of-self-2 : goal.invariant_of-self-2
+invariant_of-self-2 c =
+    let s = store_of c.args.self.now.page in
+    let (y, o, p, order, grew) = c.in_ok-placed.ensures in
+    let x = c.in_ok-placed.placed in
+    record { fair = ∣ (line_fair s (held_by c.statement.new.self.words) (fair_of c.args.self.now) order grew (Statement x.item x.term) (grind (arith, nat_tests, p.item_below, p.term_below)) (vec_items c.add.new.self.items) (cc (c.add.ensures, c.into.ensures))) ∣₁ }
 
 pub returns : goal.returns
-returns c = record { told = kept_told _ c.state.result (store_of c.args.self.now.page) (store_of c.state.new.self) c.args.self.now.fair c.state.ensures }
+returns c =
+    let s = store_of c.args.self.now.page in
+    let room = c.statement_fits-room.ensures in
+    let same = statements_are s.held.book.nodes s.lines in
+    let (y, o, p, order, grew) = c.in_ok-placed.ensures in
+    let x = c.in_ok-placed.placed in
+    record {
+      told =
+          line_told s (held_by c.statement.new.self.words) (fair_of c.args.self.now) order grew (Statement x.item x.term) (grind (arith, nat_tests, p.item_below, p.term_below)) (vec_items c.add.new.self.items) (cc (c.add.ensures, c.into.ensures)) _ (λ p. with_line p.words (stated p.item p.term) (content_of s)) y (cc)
+          (λ i. with_line (p.words i) (stated (p.item i) (p.term i)) (content_of s));
+    }

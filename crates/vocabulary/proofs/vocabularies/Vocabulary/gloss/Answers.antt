@@ -1,13 +1,17 @@
-use Rattle.vocabulary.proofs.Called.{entered_order}
-use Rattle.vocabulary.proofs.Props.{in_order}
-use Rattle.vocabulary.specs.Entries.{GlossAt}
-use Rattle.vocabulary.specs.Held.{held_by}
+use Rattle.std.proofs.Common.{rules}
+use Rattle.terms.specs.Nodes.{name_bytes}
+use Rattle.vocabulary.proofs.FitInput.{gloss_read}
+use Rattle.vocabulary.proofs.Props.{ordered}
+use Rattle.vocabulary.proofs.Stepping.{entered}
+use Rattle.vocabulary.specs.Entries.{GlossAt, Stepped, gloss_steps}
+use Rattle.vocabulary.specs.Held.{held_by, lexicon}
 use Rattle.vocabulary.proofs.vocabularies.Vocabulary.gloss.Goals as goal
 
-pub invariant_of-self : goal.invariant_of-self
-invariant_of-self c =
-    let v = c.args.self.now in
-    record { order = ∣ entered_order _ c.gloss.result GlossAt (held_by v.words) (held_by c.gloss.new.self) (in_order (held_by v.words) v.order) c.gloss.ensures ∣₁ }
-
 pub returns : goal.returns
-returns c = let v = c.args.self.now in c.gloss.ensures (in_order (held_by v.words) v.order)
+returns c =
+    let (t, read) = c.in_ok-check_in.ensures in
+    let h = held_by c.args.self.now.words in
+    let v = c.enter.new.self in
+    let (i, call, kept) = c.enter.ensures in
+    let s : Stepped (gloss_steps (lexicon h) (name_bytes c.args.class) c.args.term.now) c.enter.result GlossAt h (held_by i.words) = search rules in
+    entered c.enter.result (gloss_read (lexicon h) (name_bytes c.args.class) c.args.term.now t read) s (ordered v) kept

@@ -1,14 +1,19 @@
-use Rattle.vocabulary.proofs.Called.{entered_order}
-use Rattle.vocabulary.proofs.Props.{in_order}
-use Rattle.vocabulary.specs.Entries.{TieAt}
+use Rattle.std.proofs.Common.{rules}
+use Rattle.terms.specs.Nodes.{name_bytes}
+use Rattle.vocabulary.proofs.FitInput.{tie_read}
+use Rattle.vocabulary.proofs.Props.{ordered}
+use Rattle.vocabulary.proofs.Stepping.{entered}
+use Rattle.vocabulary.specs.Entries.{TieAt, Stepped, tie_steps}
 use Rattle.vocabulary.specs.Held.{held_by, lexicon}
-use Rattle.vocabulary.specs.Placing.{tie_words}
 use Rattle.vocabulary.proofs.vocabularies.Vocabulary.tie.Goals as goal
 
-pub invariant_of-self : goal.invariant_of-self
-invariant_of-self c =
-    let v = c.args.self.now in
-    record { order = ∣ entered_order (tie_words (lexicon (held_by v.words)) c.args.link.now c.args.from.now c.args.to.now c.args.room) c.tie.result TieAt (held_by v.words) (held_by c.tie.new.self) (in_order (held_by v.words) v.order) c.tie.ensures ∣₁ }
-
 pub returns : goal.returns
-returns c = let v = c.args.self.now in c.tie.ensures (in_order (held_by v.words) v.order)
+returns c =
+    let h = held_by c.args.self.now.words in
+    let v = c.enter.new.self in
+    let l = name_bytes c.in_ok-link.link in
+    let a = name_bytes c.in_ok-from.from in
+    let b = name_bytes c.in_ok-to.to in
+    let (i, call, kept) = c.enter.ensures in
+    let s : Stepped (tie_steps (lexicon h) l a b c.args.room) c.enter.result TieAt h (held_by i.words) = search rules in
+    entered c.enter.result (tie_read (lexicon h) c.args.link.now c.args.from.now c.args.to.now l a b c.args.room c.in_ok-link.ensures c.in_ok-from.ensures c.in_ok-to.ensures) s (ordered v) kept
