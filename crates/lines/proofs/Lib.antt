@@ -1,4 +1,3 @@
 pub mod Cuts
-pub mod Writing
 pub mod Reported
 pub mod Signs

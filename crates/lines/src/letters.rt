@@ -1,5 +1,5 @@
 // The kinds of line, by the letter in their first field.
-#[derive(Clone, Copy)]
+#[derive(Clone, Copy, Debug, PartialEq, Eq)]
 pub enum Letter {
     Heading,
     Gloss,
@@ -9,7 +9,7 @@ pub enum Letter {
 }
 
 // How far a file was read: nothing yet, its lines from the heading on, or its questions.
-#[derive(Clone, Copy)]
+#[derive(Clone, Copy, Debug, PartialEq, Eq)]
 pub enum Stage {
     Start,
     Lines,

@@ -6,7 +6,7 @@ mod fields;
 mod following;
 mod kinds;
 mod letters;
-mod reports;
+mod located;
 mod walking;
 
 pub use buffers::lay_out;
@@ -14,5 +14,5 @@ pub use fields::{Fields, cut_line};
 pub use following::follow;
 pub use kinds::{GlossLine, HeadingLine, LineKind, QuestionLine, StatementLine, TieLine, letter};
 pub use letters::{Letter, Stage};
-pub use reports::fault_line;
-pub use walking::next_line;
+pub use located::Located;
+pub use walking::FileLines;

@@ -1,18 +1,45 @@
-ghost use Rattle.std.specs.Prelude.{◌≡◌, ◌<◌, [], ◌∷◌, ◌++◌, length, MatchOption};
-ghost use Rattle.lines.specs.Pieces.{pieces};
+ghost use Rattle.lines.specs.Unread.{unread, Reads};
+ghost use Rattle.std.specs.Iterator.{at_most};
+ghost use Rattle.std.specs.Prelude.{◌≡◌, length};
 
 use cut::{behind, piece_length};
+use names::Refusal;
 
 // What ends a line.
-const END: u8 = 10;
+const END: u8 = b'\n';
 
-// The first line without its end, and what stands behind it; none where no line ends.
-pub fn next_line(rest: &[u8]) -> Option<(&[u8], &[u8])>
-    ensures { MatchOption result (pieces 10 rest.now ≡ rest.now ∷ []) (λ p. (pieces 10 rest.now ≡ p.0.now ∷ pieces 10 p.1.now) × (length p.1.now < length rest.now) × (rest.now ≡ p.0.now ++ 10 ∷ p.1.now)) }
-{
-    let n = piece_length(rest, END);
-    if n == rest.len() {
-        return None;
+// The lines of a file that are still to come, each without its end; a last line that does not end is refused.
+#[derive(Drop)]
+pub struct FileLines<'a> {
+    rest: &'a [u8],
+}
+
+impl<'a> FileLines<'a> {
+    pub fn new(file: &'a [u8]) -> FileLines<'a>
+        ensures { unread result ≡ file.now }
+    {
+        FileLines { rest: file }
     }
-    Some((&rest[..n], behind(rest, n)))
+}
+
+impl<'a> Iterator for FileLines<'a> {
+    type Item = Result<&'a [u8], Refusal>;
+
+    ghost next_gives = { Reads };
+
+    ghost remaining = { λ s. at_most (length (unread s)) };
+
+    fn next(&mut self) -> Option<Result<&'a [u8], Refusal>> {
+        let rest = self.rest;
+        if rest.is_empty() {
+            return None;
+        }
+        let n = piece_length(rest, END);
+        self.rest = behind(rest, n);
+        if n < rest.len() {
+            Some(Ok(&rest[..n]))
+        } else {
+            Some(Err(Refusal::Unended))
+        }
+    }
 }

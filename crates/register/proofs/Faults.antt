@@ -1,5 +1,5 @@
 -- What a line's fault tells is short: its field, its number and its place. Assumes nothing.
-use Rattle.std.proofs.Common.{◌≡◌, ℕ, ◌+◌, ◌≤◌, Bool, true, cond, ◌&&◌, eqb, ltb, leb, List, [], length, get_or, Some, None, Ok, Err, Option, Result, subst, arith}
+use Rattle.std.proofs.Common.{ℕ, ◌+◌, ◌≤◌, Bool, true, cond, ◌&&◌, eqb, ltb, leb, List, [], length, get_or, Some, None, Ok, Err, Option, Result, arith}
 use Rattle.std.proofs.lemmas.Bool.{cond_both}
 use Rattle.lines.proofs.Cuts.{piece_short}
 use Rattle.lines.specs.Pieces.{pieces}
@@ -8,7 +8,7 @@ use Rattle.lines.specs.declared.letters.Letter.{Letter}
 use Rattle.lines.specs.declared.letters.Letter.TheVariants.{Heading, Gloss, Statement, Tie, Question}
 use Rattle.lines.specs.declared.letters.Stage.{Stage}
 use Rattle.names.specs.Name.{flaw}
-use Rattle.names.specs.Refusal.{number, place_of}
+use Rattle.names.specs.Refusal.{number, place_of, at}
 use Rattle.names.specs.declared.refusals.Fault.{Fault}
 use Rattle.names.specs.declared.refusals.Refusal.{Refusal}
 use Rattle.names.specs.declared.refusals.Refusal.TheVariants.{BadName, BadOperator, EndsEarly, LeftOver, StraySpace, TooDeep, UnknownLetter, WrongStage, FieldCount, Unended, FileTooLong, ShortBuffer, NamesFull, TermsFull, GlossedAlready, Circle, LinesFull, NoMemory}
@@ -19,7 +19,7 @@ use Rattle.terms.proofs.Places.{Near, near_named, near_more, near_reading, flaw_
 use Rattle.terms.specs.Parse.{named, reading}
 use Rattle.terms.specs.Term.{Spelled}
 use Rattle.vocabulary.specs.Lexicon.{Lexicon, with_class, with_link, with_item, with_term}
-use Rattle.vocabulary.specs.Placing.{thus, at, in_field, name_in, term_in, place_if, place_class, place_link, place_item, place_term, gloss_words, state_words, tie_words, query_words}
+use Rattle.vocabulary.specs.Placing.{thus, in_field, name_in, term_in, place_if, place_class, place_link, place_item, place_term, gloss_words, state_words, tie_words, query_words}
 
 number_small : (e : Refusal) → number e ≤ 100
 number_small (BadName p) = omega arith
@@ -147,7 +147,3 @@ module _ (m : ℕ) (line : List ℕ) (room : length line + 16 ≤ m) where
 
   pub line_faulty : (p : Progress) → Faulty m (progress_after line p)
   line_faulty p = letter_faulty (letter_of (get_or (pieces 9 line) 0 [])) p
-
--- the fault of a line tells a place at most a name behind the line's end
-pub line_fault : (line : List ℕ) (p : Progress) (e : Fault) → progress_after line p ≡ Err e → Small (length line + 16) e
-line_fault line p e h = subst (Faulty (length line + 16)) h (line_faulty (length line + 16) line (omega arith) p)

@@ -1,4 +1,4 @@
 pub mod Faults
-pub mod Room
 pub mod Taking
+pub mod Wanted
 pub mod Walking

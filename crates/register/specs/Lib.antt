@@ -3,3 +3,4 @@ pub mod Report
 pub mod Proof
 pub mod Reading
 pub mod Walk
+pub mod TallyText

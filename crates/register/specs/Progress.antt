@@ -11,7 +11,8 @@ use Rattle.names.specs.declared.refusals.Refusal.TheVariants.{UnknownLetter, Wro
 use Rattle.register.specs.declared.tallies.Tally.{Tally}
 use Rattle.sheet.specs.Content.{Content, empty}
 use Rattle.sheet.specs.Outcome.{glossing, stating, tying}
-use Rattle.vocabulary.specs.Placing.{thus, at, query_words}
+use Rattle.names.specs.Refusal.{at}
+use Rattle.vocabulary.specs.Placing.{thus, query_words}
 
 -- How far a register has been read: its stage, what was accepted, and how many lines of each kind.
 pub record Progress : Type 0 where

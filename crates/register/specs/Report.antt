@@ -4,12 +4,11 @@ use Rattle.lines.specs.FaultLine.{fault_line}
 use Rattle.lines.specs.Pieces.{pieces}
 use Rattle.lines.specs.declared.letters.Stage.{Stage}
 use Rattle.lines.specs.declared.letters.Stage.TheVariants.{Start, Lines, Questions}
-use Rattle.names.specs.Refusal.{number, place_of}
+use Rattle.names.specs.Refusal.{number, place_of, at}
 use Rattle.names.specs.declared.refusals.Fault.{Fault}
 use Rattle.names.specs.declared.refusals.Refusal.TheVariants.{WrongStage, Unended, FileTooLong}
 use Rattle.register.specs.Progress.{Progress, begun, progress_after}
 use Rattle.register.specs.declared.tallies.Tally.{Tally}
-use Rattle.vocabulary.specs.Placing.{at}
 
 -- the line that tells a fault at line n
 abbrev pub fault_at : ℕ → Fault → List ℕ

@@ -1,12 +1,11 @@
 ghost use Rattle.std.specs.Prelude.{◌≡◌, [], IfOk};
-ghost use Rattle.lines.specs.declared.letters.Letter.TheVariants.{Heading, Gloss, Statement, Tie, Question};
 ghost use Rattle.register.specs.Progress.{begun};
-ghost use Rattle.register.specs.Reading.{progress_of, text_of, Few, Entered, Taken};
+ghost use Rattle.register.specs.Reading.{progress_of, text_of, Few, Entered, TakenOr};
 
-use crate::fields::{fields, plain};
 use crate::tallies::Tally;
 use lines::{
-    GlossLine, HeadingLine, Letter, QuestionLine, Stage, StatementLine, TieLine, follow, letter,
+    GlossLine, HeadingLine, Letter, QuestionLine, Stage, StatementLine, TieLine, cut_line, follow,
+    letter,
 };
 use names::{Fault, Refusal};
 use sheet::Sheet;
@@ -29,95 +28,53 @@ impl Reading {
         Ok(Reading {
             stage: Stage::Start,
             sheet: Sheet::new(heap)?,
-            tally: Tally {
-                glosses: 0,
-                statements: 0,
-                ties: 0,
-                questions: 0,
-            },
+            tally: Tally::default(),
             text: Vec::new(heap),
         })
     }
 
-    // The heading is copied, with its end.
-    fn heading(&mut self, line: &[u8]) -> Result<(), Fault>
-        ensures { Entered Heading line.now result self.old self.new }
-    {
-        fields::<HeadingLine>(line)?;
-        if self.text.extend_from_slice(line).is_err() || self.text.push(10).is_err() {
-            return Err(plain(Refusal::NoMemory));
-        }
-        Ok(())
-    }
-
-    fn gloss(&mut self, line: &[u8]) -> Result<(), Fault>
-        requires { Few 16384 self.old.tally }
-        ensures { Entered Gloss line.now result self.old self.new }
-    {
-        let found = fields::<GlossLine>(line)?;
-        self.sheet.gloss(found.second, found.third)?;
-        self.tally.glosses += 1;
-        Ok(())
-    }
-
-    fn statement(&mut self, line: &[u8]) -> Result<(), Fault>
-        requires { Few 16384 self.old.tally }
-        ensures { Entered Statement line.now result self.old self.new }
-    {
-        let found = fields::<StatementLine>(line)?;
-        self.sheet.state(found.second, found.third)?;
-        self.tally.statements += 1;
-        Ok(())
-    }
-
-    fn tie(&mut self, line: &[u8]) -> Result<(), Fault>
-        requires { Few 16384 self.old.tally }
-        ensures { Entered Tie line.now result self.old self.new }
-    {
-        let found = fields::<TieLine>(line)?;
-        self.sheet.tie(found.second, found.third, found.fourth)?;
-        self.tally.ties += 1;
-        Ok(())
-    }
-
-    // A question is read as a query is, and leaves the sheet as it was.
-    fn question(&mut self, heap: Global, line: &[u8]) -> Result<(), Fault>
-        requires { Few 16384 self.old.tally }
-        ensures { Entered Question line.now result self.old self.new }
-    {
-        let found = fields::<QuestionLine>(line)?;
-        self.sheet.query(heap, found.second, found.third)?;
-        self.tally.questions += 1;
-        Ok(())
-    }
-
-    // A line of this kind, by the sheet's call for it.
-    fn enter(&mut self, heap: Global, kind: Letter, line: &[u8]) -> Result<(), Fault>
-        requires { Few 16384 self.old.tally }
+    // A line of this kind, by the sheet's call for it. The heading is copied, with its end; a question is read as a query
+    // is, and leaves the sheet as it was.
+    fn enter(&mut self, kind: Letter, line: &[u8]) -> Result<(), Fault>
         ensures { Entered kind line.now result self.old self.new }
     {
         match kind {
-            Letter::Heading => self.heading(line),
-            Letter::Gloss => self.gloss(line),
-            Letter::Statement => self.statement(line),
-            Letter::Tie => self.tie(line),
-            Letter::Question => self.question(heap, line),
+            Letter::Heading => {
+                cut_line::<HeadingLine>(line)?;
+                self.text.extend_from_slice(line)?;
+                self.text.extend_from_slice(b"\n")?;
+            }
+            Letter::Gloss => {
+                let found = cut_line::<GlossLine>(line)?;
+                self.sheet.gloss(found.second, found.third)?;
+            }
+            Letter::Statement => {
+                let found = cut_line::<StatementLine>(line)?;
+                self.sheet.state(found.second, found.third)?;
+            }
+            Letter::Tie => {
+                let found = cut_line::<TieLine>(line)?;
+                self.sheet.tie(found.second, found.third, found.fourth)?;
+            }
+            Letter::Question => {
+                let found = cut_line::<QuestionLine>(line)?;
+                self.sheet.query(found.second, found.third)?;
+            }
         }
+        Ok(())
     }
 
-    // Takes the next line, or says what is wrong with it: its letter first, then its stage, then its fields.
-    pub(crate) fn line(&mut self, heap: Global, line: &[u8]) -> Result<(), Fault>
+    // Takes the next line, or says what is wrong with it: its end first, then its letter, its stage, and its fields.
+    pub(crate) fn line(&mut self, line: Result<&[u8], Refusal>) -> Result<(), Fault>
         requires { Few 16384 self.old.tally }
-        ensures { Taken line.now result self.old self.new }
+        ensures { TakenOr line.entry result self.old self.new }
     {
-        let Some(kind) = letter(line) else {
-            return Err(plain(Refusal::UnknownLetter));
-        };
-        let Some(stage) = follow(self.stage, kind) else {
-            return Err(plain(Refusal::WrongStage));
-        };
-        self.enter(heap, kind, line)?;
+        let line = line?;
+        let kind = letter(line).ok_or(Refusal::UnknownLetter)?;
+        let stage = follow(self.stage, kind).ok_or(Refusal::WrongStage)?;
+        self.enter(kind, line)?;
         self.stage = stage;
+        self.tally.count(kind);
         Ok(())
     }
 }

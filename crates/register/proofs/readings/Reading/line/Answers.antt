@@ -1,13 +1,11 @@
+use Rattle.std.proofs.Common.{sym, ◌∙◌}
 use Rattle.std.proofs.lemmas.Result.{err_from_is_err_and}
-use Rattle.register.proofs.Taking.{line_taken, line_text, line_refused}
+use Rattle.register.proofs.Taking.{line_refused}
 use Rattle.register.proofs.readings.Reading.line.Goals as goal
 
 pub returns-in_err-enter : goal.returns-in_err-enter
 returns-in_err-enter c =
-    let p = err_from_is_err_and c.from_residual.result c.from_residual.ensures.1 in
-    rw (p.1, p.2) (line_refused c.args.line.now c.args.self.now c.enter.new.self c.in-Some.kind c.in-Some-follow.stage c.in-Some.ensures c.in-Some-follow.ensures c.in_err-enter.field-0.0 c.in_err-enter.ensures)
-
-pub returns : goal.returns
-returns c =
-    let took = c.in_ok-enter.ensures in
-    (line_taken c.args.line.now c.args.self.now c.enter.new.self c.in-Some.kind c.in-Some-follow.stage c.in-Some.ensures c.in-Some-follow.ensures took, line_text c.args.line.now c.args.self.now c.enter.new.self c.in-Some.kind c.in-Some-follow.stage c.in-Some.ensures c.in-Some-follow.ensures took)
+    let p = err_from_is_err_and c.from_residual-in_err-enter.result c.from_residual-in_err-enter.ensures.1 in
+    let is = sym c.in_ok-kind.ensures.ok_part ∙ c.letter.ensures in
+    let then = sym c.in_ok-stage.ensures.ok_part ∙ c.follow.ensures in
+    rw (p.1, p.2, c.in_ok-line.was) (line_refused c.in_ok-line.line.now c.args.self.now c.enter.new.self _ _ is then _ c.in_err-enter.ensures)
