@@ -4,18 +4,15 @@
 mod proofs;
 mod reports;
 
-use reports::proofread;
+use reports::{LIMIT, proofread};
 use std::io;
 use std::io::{Read, Write};
 
-// As many bytes as a register's file may have.
-const LIMIT: usize = 16384;
-
 fn main(rt: HostRuntime) -> io::Result<()> {
-    let mut text = Vec::new(rt.alloc());
-    rt.stdin().take(16385).read_to_end(&mut text)?;
-    let over = text.len() > LIMIT;
-    text.truncate(LIMIT);
-    let report = proofread(rt.alloc(), text.as_slice(), over)?;
+    let mut input = Vec::new(rt.alloc());
+    // One byte more than is read, so that more is seen to be there.
+    let most = LIMIT as u64 + 1;
+    rt.stdin().take(most).read_to_end(&mut input)?;
+    let report = proofread(rt.alloc(), input.as_slice())?;
     rt.stdout().write_all(report.as_slice())
 }

@@ -10,7 +10,5 @@ use std::alloc::Global;
 pub(crate) fn proof(heap: Global, term: &[u8], out: &mut [u8]) -> Result<usize, Refusal>
     ensures { MatchResult result (λ n. (n ≤ length out.new) × (take n out.new ≡ term.now)) (λ e. ((e ≡ NoMemory) ⊎ (e ≡ ShortBuffer)) ⊎ IsRefused term.now e) }
 {
-    let expression = Expression::read(heap, term)?;
-    let n = expression.write(out)?;
-    Ok(n)
+    Expression::read(heap, term)?.write(out)
 }

@@ -1,67 +1,66 @@
 use crate::proofs::proof;
-use cut::{behind, piece_length};
-use std::alloc::{AllocError, Global};
+use cut::cut_at;
+use std::alloc::Global;
+use std::io::Write;
+use std::{fmt, io};
 
-// What the report says, and how many terms were read and refused.
-#[derive(Drop)]
-struct Report {
-    text: Vec<u8>,
+// As many bytes as are read, and as a register's file may have.
+pub(crate) const LIMIT: usize = 16384;
+
+// How many terms were read, and how many refused.
+#[derive(Default, Drop)]
+struct Tally {
     read: usize,
     refused: usize,
 }
 
-impl Report {
-    fn put(&mut self, text: &str) -> Result<(), AllocError> {
-        self.text.extend_from_slice(text.as_bytes())
-    }
-
-    // The report's line for one term.
-    fn note(&mut self, heap: Global, term: &[u8]) -> Result<(), AllocError> {
-        let mut bytes = [0u8; 16384];
-        let number = self.read.saturating_add(self.refused).saturating_add(1);
-        match proof(heap, term, &mut bytes) {
+impl Tally {
+    // Writes the report's line for one term, and counts it.
+    fn note(&mut self, heap: Global, term: &[u8], report: &mut Vec<u8>) -> io::Result<()> {
+        let mut out = [0u8; LIMIT];
+        let counter = match proof(heap, term, &mut out) {
             Ok(n) => {
-                self.read = self.read.saturating_add(1);
-                let line = format!(in heap; "{number} ok {n} ")?;
-                self.put(line.as_str())?;
-                self.text.extend_from_slice(&bytes[0..n])?;
-                self.put("\n")
+                write!(report, "ok {n} ")?;
+                report.write_all(&out[..n])?;
+                writeln!(report)?;
+                &mut self.read
             }
             Err(refusal) => {
-                self.refused = self.refused.saturating_add(1);
-                let refused = refusal.number();
-                let place = refusal.place();
-                let line = format!(in heap; "{number} refused {refused} at {place}\n")?;
-                self.put(line.as_str())
+                writeln!(
+                    report,
+                    "refused {} at {}",
+                    refusal.number(),
+                    refusal.place()
+                )?;
+                &mut self.refused
             }
-        }
+        };
+        *counter = counter.saturating_add(1);
+        Ok(())
     }
 }
 
-// The report on a text, one term a line; `over` says that not all of the input was taken.
-pub(crate) fn proofread(heap: Global, text: &[u8], over: bool) -> Result<Vec<u8>, AllocError> {
-    let mut report = Report {
-        text: Vec::new(heap),
-        read: 0,
-        refused: 0,
-    };
-    let mut rest = text;
-    while !rest.is_empty() {
-        let n = piece_length(rest, 10);
-        report.note(heap, &rest[0..n])?;
-        rest = behind(rest, n);
+impl fmt::Display for Tally {
+    fn fmt<W: fmt::Write>(&self, f: &mut fmt::Formatter<W>) -> fmt::Result {
+        write!(f, "{} read, {} refused", self.read, self.refused)
     }
-    let read = report.read;
-    let refused = report.refused;
-    let last = format!(in heap; "{read} read, {refused} refused\n")?;
-    report.put(last.as_str())?;
-    if over {
-        report.put("the input is over 16384 bytes: the rest was not read\n")?;
+}
+
+// The report on an input, one term a line.
+pub(crate) fn proofread(heap: Global, input: &[u8]) -> io::Result<Vec<u8>> {
+    let text = input.get(..LIMIT).unwrap_or(input);
+    let mut tally = Tally::default();
+    let mut report = Vec::new(heap);
+    for (i, term) in cut_at(text, b'\n').enumerate() {
+        write!(report, "{} ", i + 1)?;
+        tally.note(heap, term, &mut report)?;
     }
-    let Report {
-        text,
-        read: _,
-        refused: _,
-    } = report;
-    Ok(text)
+    writeln!(report, "{tally}")?;
+    if text.len() < input.len() {
+        writeln!(
+            report,
+            "the input is over {LIMIT} bytes: the rest was not read"
+        )?;
+    }
+    Ok(report)
 }

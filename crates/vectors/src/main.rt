@@ -3,21 +3,19 @@
 // register and its report, both in hexadecimal.
 #![tactic(auto)]
 
-mod calls_held;
-mod hex;
-mod registers_held;
-mod terms_held;
+mod calls;
+mod registers;
 
-use calls_held::calls_agree;
-use cut::{behind, piece_length};
-use hex::decoded;
-use registers_held::register_agrees;
+use calls::Calls;
+use cases::{Kind, Terms};
+use cut::{behind, cut_at, piece_length};
+use registers::Registers;
 use std::alloc::{AllocError, Global};
-use std::io;
 use std::io::Read;
-use terms_held::term_agrees;
+use std::{fmt, io};
 
-#[derive(Drop)]
+// How many cases of each kind agree, and how many of any kind differ.
+#[derive(Default, Drop)]
 struct Tally {
     terms: usize,
     sheets: usize,
@@ -26,48 +24,36 @@ struct Tally {
 }
 
 impl Tally {
-    // One case, from its line.
+    // Counts one case, from its line. The first letter is its kind, and it stands behind the first tab.
     fn hold(&mut self, heap: Global, line: &[u8]) -> Result<(), AllocError> {
-        let case = behind(line, piece_length(line, 9));
-        let n = piece_length(case, 9);
-        let input = decoded(heap, &case[0..n])?;
-        let expected = behind(case, n);
-        if line.starts_with(b"T") && term_agrees(heap, input.as_slice(), expected)? {
-            self.terms = self.terms.saturating_add(1);
-        } else if line.starts_with(b"C") && calls_agree(heap, input.as_slice(), expected)? {
-            self.sheets = self.sheets.saturating_add(1);
-        } else if line.starts_with(b"R") && register_agrees(heap, input.as_slice(), expected)? {
-            self.registers = self.registers.saturating_add(1);
-        } else {
-            self.differ = self.differ.saturating_add(1);
-        }
+        let case = behind(line, piece_length(line, b'\t'));
+        let counter = match line.first() {
+            Some(b'T') if Terms::line_agrees(heap, case)? => &mut self.terms,
+            Some(b'C') if Calls::line_agrees(heap, case)? => &mut self.sheets,
+            Some(b'R') if Registers::line_agrees(heap, case)? => &mut self.registers,
+            _ => &mut self.differ,
+        };
+        *counter = counter.saturating_add(1);
         Ok(())
     }
 }
 
-fn hold_all(heap: Global, text: &[u8]) -> Result<Tally, AllocError> {
-    let mut tally = Tally {
-        terms: 0,
-        sheets: 0,
-        registers: 0,
-        differ: 0,
-    };
-    let mut rest = text;
-    while !rest.is_empty() {
-        let n = piece_length(rest, 10);
-        tally.hold(heap, &rest[0..n])?;
-        rest = behind(rest, n);
+impl fmt::Display for Tally {
+    fn fmt<W: fmt::Write>(&self, f: &mut fmt::Formatter<W>) -> fmt::Result {
+        write!(
+            f,
+            "{} terms, {} sheets and {} registers agree, {} differ",
+            self.terms, self.sheets, self.registers, self.differ
+        )
     }
-    Ok(tally)
 }
 
 fn main(rt: HostRuntime) -> io::Result<()> {
-    let mut text = Vec::new(rt.alloc());
-    rt.stdin().read_to_end(&mut text)?;
-    let tally = hold_all(rt.alloc(), text.as_slice())?;
-    let terms = tally.terms;
-    let sheets = tally.sheets;
-    let registers = tally.registers;
-    let differ = tally.differ;
-    println!(rt; "{terms} terms, {sheets} sheets and {registers} registers agree, {differ} differ")
+    let mut list = Vec::new(rt.alloc());
+    rt.stdin().read_to_end(&mut list)?;
+    let mut tally = Tally::default();
+    for line in cut_at(list.as_slice(), b'\n') {
+        tally.hold(rt.alloc(), line)?;
+    }
+    println!(rt; "{tally}")
 }
