@@ -1,21 +1,8 @@
 -- What the scan of a word for a name finds. Assumes nothing.
-use Rattle.std.proofs.Common.{◌≡◌, ℕ, zero, suc, ◌+◌, ◌-◌, ◌<◌, ◌≤◌, true, false, not, ◌&&◌, eqb, ltb, ◌⊎◌, List, [], ◌∷◌, ◌++◌, length, get_or, take, drop, is_some, Some, None, Option, sym, refl, ap, ◌∙◌, subst, inl, inr, ⊎_elim, add-zero, zero-add, add-one, arith}
-use Rattle.std.proofs.lemmas.List.{drop_more, drop_all, take_all, get_or-take, get_or_append_left, length-append, length-take-le}
+use Rattle.std.proofs.Common.{◌≡◌, ℕ, zero, suc, ◌+◌, ◌-◌, ◌<◌, ◌≤◌, true, false, not, ◌&&◌, eqb, ltb, ◌⊎◌, List, [], ◌∷◌, ◌++◌, length, get_or, take, is_some, Some, None, Option, sym, refl, ap, ◌∙◌, subst, inl, inr, ⊎_elim, add-zero, zero-add, arith}
+use Rattle.std.proofs.lemmas.List.{take_all, get_or-take, get_or_append_left, length-append, length-take-le}
 use Rattle.std.proofs.lemmas.Bool.{cond-true, cond-false, cases_Bool, cases_eq, eqb-true, eqb-false, eq-eqb, ne_eqb, and_parts, ltb-true, lt-ltb, or_left, both_ways}
 use Rattle.names.specs.Name.{opens, follows, fits, flaw, legal, Legal, FirstFlaw}
-
--- one turn of the scan
-pub scan_more : (w : List ℕ) (i b : ℕ) → i < length w → b ≡ get_or w i 0 → fits i b ≡ true → flaw i (drop i w) ≡ flaw (i + 1) (drop (i + 1) w)
-scan_more w i b l e f =
-    ap (flaw i) (drop_more w i 0 l ∙ ap (λ x. x ∷ drop (i + 1) w) (sym e))
-    ∙ cond-true _ _ _ f ∙ ap (λ k. flaw k (drop (i + 1) w)) (sym (add-one i))
-
-pub scan_stops : (w : List ℕ) (i b : ℕ) → i < length w → b ≡ get_or w i 0 → fits i b ≡ false → flaw i (drop i w) ≡ Some i
-scan_stops w i b l e f =
-    ap (flaw i) (drop_more w i 0 l ∙ ap (λ x. x ∷ drop (i + 1) w) (sym e)) ∙ cond-false _ _ _ f
-
-pub scan_ends : (w : List ℕ) (i : ℕ) → length w ≤ i → 0 < length w → flaw i (drop i w) ≡ None
-scan_ends w i l some = ap (flaw i) (drop_all i w l) ∙ cond-false _ _ _ (ne_eqb i 0 (λ e. omega arith))
 
 -- a byte that fits is one that follows, at a place below 16
 fits_says : (i b : ℕ) → fits i b ≡ true → (i < 16) × (follows b ≡ true) × (i ≡ 0 → opens b ≡ true)

@@ -1,2 +1,3 @@
+pub mod First
 pub mod Flaws
 pub mod Padding

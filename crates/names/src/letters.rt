@@ -33,10 +33,5 @@ pub(crate) fn first_flaw(word: &[u8]) -> Option<usize>
     if word.is_empty() {
         return Some(0);
     }
-    for (i, b) in word.iter().enumerate() {
-        if !stands(i, *b) {
-            return Some(i);
-        }
-    }
-    None
+    word.iter().enumerate().position(|(i, b)| !stands(i, *b))
 }
