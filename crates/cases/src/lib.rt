@@ -8,7 +8,7 @@ mod term_cases;
 
 pub use hex_digits::decoded;
 pub use kinds::Kind;
-pub use term_cases::Terms;
+pub use term_cases::{LIMIT, Terms};
 
 #[cfg(test)]
 mod tests {

@@ -4,6 +4,9 @@ use crate::kinds::Kind;
 use expressions::Expression;
 use std::alloc::{AllocError, Global};
 
+// As many bytes as a term may be written back into.
+pub const LIMIT: usize = 16384;
+
 // A term, and `ok` or a refusal's number and place. One that reads is also written back.
 pub struct Terms;
 
@@ -22,7 +25,7 @@ impl Kind for Terms {
 }
 
 fn is_written_back(text: &[u8], term: &Expression) -> bool {
-    let mut out = [0u8; 16384];
+    let mut out = [0u8; LIMIT];
     term.write(&mut out)
         .is_ok_and(|n| out.get(..n) == Some(text))
 }

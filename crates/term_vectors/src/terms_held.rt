@@ -1,11 +1,8 @@
 ghost use Rattle.term_vectors.specs.Held.{AnyTermShows};
 
-use cases::{Kind, Terms};
+use cases::{Kind, LIMIT, Terms};
 use expressions::Expression;
 use std::alloc::{AllocError, Global};
-
-// As many bytes as a term is written back with.
-const LIMIT: usize = 16384;
 
 // A term, and what is expected of it in `Terms`, or `no room` where it reads and is too long to be written back.
 pub(crate) struct AnyTerms;
