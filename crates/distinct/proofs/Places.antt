@@ -55,6 +55,10 @@ found_at xs x r e =
     (λ h. subst (Found xs x) (sym (cond-false _ _ _ (le-ltb _ _ h))) (λ k l. absent_before xs x k (omega (arith, h, l))))
     (cases_lt (number xs x) (length xs)))
 
+-- any answer that decides it is the one that compares the bytes
+pub alike_is : (b : Bool) (y x : List ℕ) → Decides b (y ≡ x) → b ≡ bytes_eq y x
+alike_is b y x d = sym (same_from_decides _ _ (bytes_eq-Decides y x) d)
+
 module _ {X : Type 0} (f : X → List ℕ) where
   -- over entries that an equality tells apart by what they show
   pub first_equal : (eq : X → X → Bool) → ((y x : X) → Decides (eq y x) (f y ≡ f x)) → (x : X) (xs : List X) → number (map f xs) (f x) ≡ position_or_len (λ y. eq y x) xs

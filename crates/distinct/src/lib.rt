@@ -3,6 +3,8 @@
 
 mod kind;
 mod table;
+#[cfg(test)]
+mod tests;
 
 pub use kind::Alike;
 pub use table::Distinct;

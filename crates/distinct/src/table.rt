@@ -10,7 +10,7 @@ fn position<T: Alike>(items: &[T], x: &T) -> Option<usize>
     ensures value { result ≡ place (map T.shown items.now) (T.shown x.now) }
     ensures cases { Found (map T.shown items.now) (T.shown x.now) result }
 {
-    items.iter().position(|y| *y == *x)
+    items.iter().position(|y| y.alike(x))
 }
 
 // Entries in the order in which they came, no two alike, at most `limit` of them; their number is their place.

@@ -2,7 +2,6 @@
 #![tactic(auto)]
 
 mod faults;
-mod kinds;
 mod letters;
 mod named;
 mod refusals;

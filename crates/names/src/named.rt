@@ -2,6 +2,7 @@ ghost use Rattle.std.specs.Prelude.{◌≡◌, ◌-◌, ◌≤◌, true, ◌++�
 ghost use Rattle.names.specs.Name.{legal, Legal, FirstFlaw};
 
 use crate::letters::first_flaw;
+use distinct::Alike;
 
 // A name: 1 to 16 bytes, letters, digits and bytes from 128 on, the first no digit.
 // Its bytes are the first `len` of `bytes`; zeros stand behind them, so that equal names are equal throughout.
@@ -33,5 +34,15 @@ impl Name {
         ensures { result.now ≡ take self.now.len self.now.bytes }
     {
         &self.bytes[0..self.len]
+    }
+}
+
+// Two names are alike when all their bytes are.
+impl Alike for Name {
+    ghost shown = { λ n. take n.len n.bytes };
+
+    #[tactic(auto, using(crate::specs::Equal::tells))]
+    fn alike(&self, other: &Name) -> bool {
+        *self == *other
     }
 }
