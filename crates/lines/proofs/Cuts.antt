@@ -1,9 +1,10 @@
 -- The laws of a text cut at a byte. Assumes nothing.
 use Rattle.std.proofs.Common.{◌≡◌, ℕ, zero, suc, ◌+◌, ◌<◌, ◌≤◌, false, eqb, List, [], ◌∷◌, ◌++◌, length, get_or, take, drop, sym, refl, ap, ◌∙◌, subst, ⊎_elim, arith}
-use Rattle.std.proofs.lemmas.List.{drop_more, take-append-drop, get_or-take, length-take-le}
+use Rattle.std.proofs.lemmas.List.{drop_more, drop_all, take_all, take-append-drop, get_or-take, length-take-le}
 use Rattle.std.proofs.lemmas.List.Elements.{All-from_get_or}
+use Rattle.std.proofs.lemmas.List.Sums.{count_by-le-length}
 use Rattle.std.proofs.lemmas.List.Splits.{slice_split_none, slice_split_at, length-slice_split}
-use Rattle.std.proofs.lemmas.Bool.{cond-true, cond-false, cond_both, cases_Bool, eqb-false, eq-eqb, ne_eqb}
+use Rattle.std.proofs.lemmas.Bool.{cond-true, cond-false, cond_both, cases_Bool, cases_lt, eqb-false, eq-eqb, ne_eqb}
 use Rattle.std.specs.List.{All, onto_first, join_with_byte}
 use Rattle.lines.specs.Pieces.{pieces, Lacks}
 
@@ -64,6 +65,30 @@ module _ (b : ℕ) where
 
   pub pieces_none : (s : List ℕ) (n : ℕ) → length s ≤ n → ((k : ℕ) → k < n → get_or s k 0 ≡ b → ⊥) → pieces b s ≡ s ∷ []
   pieces_none s n h before = pieces_whole s (λ k l. before k (omega arith))
+
+  -- the first piece, and those behind it, where n bytes stand before the first b or the end
+  module _ (s : List ℕ) (n : ℕ) (before : (k : ℕ) → k < n → get_or s k 0 ≡ b → ⊥) (found : n < length s → get_or s n 0 ≡ b) where
+    pub first_piece : take n s ≡ get_or (pieces b s) 0 []
+    first_piece =
+        ⊎_elim
+        (λ l. sym (ap (λ ps. get_or ps 0 []) (pieces_at s n l before (found l))))
+        (λ l. take_all n s l ∙ sym (ap (λ ps. get_or ps 0 []) (pieces_none s n l before)))
+        (cases_lt n (length s))
+
+    none_past : (k : ℕ) → get_or (pieces b []) k [] ≡ []
+    none_past zero = refl
+    none_past (suc k) = refl
+
+    pub later_piece : (k : ℕ) → get_or (pieces b (drop (n + 1) s)) k [] ≡ get_or (pieces b s) (suc k) []
+    later_piece k =
+        ⊎_elim
+        (λ l. sym (ap (λ ps. get_or ps (suc k) []) (pieces_at s n l before (found l))))
+        (λ l. ap (λ r. get_or (pieces b r) k []) (drop_all (n + 1) s (omega arith)) ∙ none_past k ∙ sym (ap (λ ps. get_or ps (suc k) []) (pieces_none s n l before)))
+        (cases_lt n (length s))
+
+  -- a text has one piece more than bytes b, at most one more than bytes
+  pub pieces_few : (s : List ℕ) → length (pieces b s) ≤ length s + 1
+  pieces_few s = omega (arith, length-slice_split (λ x. eqb x b) s, count_by-le-length (λ x. eqb x b) s)
 
   -- a piece is at most as long as the text
   onto_short : (x n : ℕ) (ps : List (List ℕ)) → ((k : ℕ) → length (get_or ps k []) ≤ n) → (k : ℕ) → length (get_or (onto_first x ps) k []) ≤ suc n

@@ -4,7 +4,7 @@ ghost use Rattle.lines.specs.Stages.{sign, width, letter_of};
 ghost use Rattle.lines.specs.declared.letters.Letter.TheVariants.{Heading, Gloss, Statement, Tie, Question};
 ghost use Rattle.lines.specs.Widths.{some_fields};
 
-use crate::fields::field;
+use crate::fields::cut_field;
 use crate::letters::Letter;
 
 // A kind of line: the letter that opens it, and how many fields it has, the letter's own among them.
@@ -94,7 +94,7 @@ impl LineKind for QuestionLine {
 pub fn letter(line: &[u8]) -> Option<Letter>
     ensures { result ≡ letter_of (slice_index_or (pieces 9 line.now) 0 []) }
 {
-    match field(line, 0) {
+    match cut_field(line).0 {
         [HeadingLine::LETTER] => Some(Letter::Heading),
         [GlossLine::LETTER] => Some(Letter::Gloss),
         [StatementLine::LETTER] => Some(Letter::Statement),
