@@ -4,12 +4,13 @@
 mod registers;
 
 use registers::Registers;
-use std::{env, io};
+use std::env;
 use timing::{Terms, USAGE, is_asked_for, time};
 
-fn main(rt: HostRuntime) -> io::Result<()> {
+fn main(rt: HostRuntime) -> anyhow::Result<()> {
     if !is_asked_for(env::args(&rt)?.count()) {
-        return println!(rt; "{USAGE}");
+        println!(rt; "{USAGE}")?;
+        return Ok(());
     }
     time::<Terms>(&rt, 4096, 256)?;
     time::<Terms>(&rt, 16384, 64)?;

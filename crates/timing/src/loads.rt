@@ -2,7 +2,6 @@ ghost use Rattle.std.specs.Prelude.{◌≡◌, ℕ, List, IfOk, nat_le};
 ghost use Rattle.timing.specs.Sums.{Sums};
 
 use std::alloc::{AllocError, Global};
-use std::io;
 use std::rt::Clock;
 use std::time::Instant;
 
@@ -51,7 +50,7 @@ pub fn time<L: Load>(
     rt: &(impl Alloc<A = Global> + Clock + Print),
     size: usize,
     times: u32,
-) -> io::Result<usize>
+) -> anyhow::Result<usize>
     ensures { IfOk result (λ n. (text : List ℕ) × Sums (L.comes text) times n) }
 {
     let text = L::text(rt.alloc(), size)?;
