@@ -73,3 +73,13 @@ Makes b n i c = (c ≡ noded n b) × (i ≡ node_of n b)
 -- tables at rest, with both flags down
 abbrev pub book_of : Tables → Book
 book_of s = record { classes = map name_bytes (vec_items s.classes.items); class_limit = s.classes.limit; links = map name_bytes (vec_items s.links.items); link_limit = s.links.limit; nodes = vec_items s.nodes.items; node_limit = s.nodes.limit; names_full = false; terms_full = false }
+
+-- t holds what s holds, under the same numbers and within the same limits
+abbrev pub HoldsSame : Tables → Tables → Type 0
+HoldsSame s t =
+    (vec_items t.classes.items ≡ vec_items s.classes.items)
+    × (t.classes.limit ≡ s.classes.limit)
+    × (vec_items t.links.items ≡ vec_items s.links.items)
+    × (t.links.limit ≡ s.links.limit)
+    × (vec_items t.nodes.items ≡ vec_items s.nodes.items)
+    × (t.nodes.limit ≡ s.nodes.limit)

@@ -1,6 +1,6 @@
 ghost use Rattle.std.specs.Prelude.{◌≡◌, [], IfOk};
 ghost use Rattle.distinct.specs.Numbering.{added};
-ghost use Rattle.tables.specs.Book.{book_of, names_of, limit_of, book_with};
+ghost use Rattle.tables.specs.Book.{book_of, names_of, limit_of, book_with, HoldsSame};
 ghost use Rattle.terms.specs.Nodes.{name_bytes};
 
 use distinct::Distinct;
@@ -9,7 +9,7 @@ use std::alloc::{AllocError, Global};
 use terms::{Node, Sort};
 
 // Class names, link names and nodes, each kept once under its number.
-#[derive(Clone, Drop)]
+#[derive(Drop)]
 pub struct Tables {
     pub(crate) classes: Distinct<Name>,
     pub(crate) links: Distinct<Name>,
@@ -65,5 +65,18 @@ impl Tables {
             Sort::OfClass => self.classes.add(name),
             Sort::OfLink => self.links.add(name),
         }
+    }
+}
+
+// A copy holds the same, in memory of its own.
+impl Clone for Tables {
+    ghost is_clone = { HoldsSame };
+
+    fn clone(&self) -> Result<Tables, AllocError> {
+        Ok(Tables {
+            classes: self.classes.clone()?,
+            links: self.links.clone()?,
+            nodes: self.nodes.clone()?,
+        })
     }
 }
