@@ -1,9 +1,11 @@
 -- The law above the test for circles, for every sheet in order. Assumes nothing.
-use Rattle.std.proofs.Common.{◌≡◌, ℕ, eqb, List, map, length, Some, sym, refl, ap, ◌∙◌}
+use Rattle.std.proofs.Common.{◌≡◌, ℕ, ◌<◌, true, eqb, List, map, length, Some, sym, refl, ap, ◌∙◌}
 use Rattle.std.proofs.lemmas.Bool.{both_ways, cond-true, cond-false, eq-eqb, ne_eqb}
 use Rattle.distinct.specs.Numbering.{number}
-use Rattle.glossary.proofs.Circles.{refers_complete}
+use Rattle.glossary.proofs.Circles.{refers_complete, weight_falls}
 use Rattle.glossary.proofs.Numbered.{numbered_classes}
+use Rattle.glossary.specs.Any.{is_in}
+use Rattle.glossary.specs.Flags.{weight}
 use Rattle.glossary.specs.Refers.{mentioned}
 use Rattle.sheet.proofs.Glossed.{circular_is}
 use Rattle.sheet.proofs.Loops.{told_loop, no_loop}
@@ -20,6 +22,11 @@ use Rattle.vocabulary.specs.Lexicon.{term_of}
 
 pub no_circle : (s : Store) → Fair s → NoCircle (content_of s)
 no_circle s fair c r = both_ways (s.refers c c) (fair.loopless c) (refers_complete (mentions (content_of s)) s.refers fair.follows r)
+
+-- what a gloss mentions refers to fewer classes
+pub ranked : (s : Store) → Fair s → (c e : ℕ) → is_in e (mentions (content_of s) c) ≡ true → weight (length s.held.book.classes) (s.refers e) < weight (length s.held.book.classes) (s.refers c)
+ranked s fair c e i =
+    weight_falls (mentions (content_of s)) s.refers fair.follows (length s.held.book.classes) fair.loopless fair.bounded c e i
 
 pub circle_law : (s : Store) → Fair s → (w : List ℕ) (t : Spelled) → CircleLaw (content_of s) w t
 circle_law s fair w t =

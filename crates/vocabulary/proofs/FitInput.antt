@@ -1,9 +1,10 @@
 -- An entry whose input is fit is its steps. Assumes nothing.
-use Rattle.std.proofs.Common.{◌≡◌, ℕ, Bool, cond, List, Ok, Err, sym, ap, ◌∙◌}
+use Rattle.std.proofs.Common.{◌≡◌, ℕ, Bool, true, not, cond, List, is_some, Some, None, Ok, Err, Option, refl, sym, ap, ◌∙◌, arith}
 use Rattle.distinct.specs.Numbering.{number}
+use Rattle.names.specs.Name.{flaw, legal}
 use Rattle.names.specs.Refusal.{at}
 use Rattle.names.specs.declared.refusals.Refusal.TheVariants.{LinesFull}
-use Rattle.terms.specs.Parse.{reading}
+use Rattle.terms.specs.Parse.{named, reading}
 use Rattle.terms.specs.Term.{Spelled}
 use Rattle.vocabulary.specs.Entries.{gloss_steps, state_steps, tie_steps}
 use Rattle.vocabulary.specs.Lexicon.{Lexicon, term_of}
@@ -26,3 +27,12 @@ tie_read k x y z l a b room p q r =
     ap (λ e. thus e (λ l. thus (name_in 3 y) (λ a. thus (name_in 4 z) (λ b. tie_steps k l a b room)))) p
     ∙ ap (λ e. thus e (λ a. thus (name_in 4 z) (λ b. tie_steps k l a b room))) q
     ∙ ap (λ e. thus e (λ b. tie_steps k l a b room)) r
+
+-- a name that is read is the word itself
+
+named_is : (f : ℕ) (w v : List ℕ) (o : Option ℕ) → in_field f (named 0 w o) ≡ Ok v → (v ≡ w) × (o ≡ None)
+named_is f w v None e = (cc, refl)
+named_is f w v (Some i) e = let z : ◌≡◌ {A = ℕ} 0 1 = cc in absurd (omega arith)
+
+pub name_is : (f : ℕ) (w v : List ℕ) → name_in f w ≡ Ok v → (v ≡ w) × (legal w ≡ true)
+name_is f w v e = let (same, none) = named_is f w v (flaw 0 w) e in (same, ap (λ o. not (is_some o)) none)
